@@ -27,5 +27,6 @@ pub(crate) fn list(alloc: Global) -> Result<String, Fault> {
         widths: vec![in alloc; 17, 8]?,
         height: 1,
     };
-    Ok(CompactGrid::new(records, &config, dimension, NoColors).text(alloc)?)
+    let grid = CompactGrid::new(records, &config, dimension, NoColors);
+    grid.text(alloc).map_err(Fault::from)
 }

@@ -18,9 +18,9 @@ pub(crate) enum Fault {
     Whole(WholeFault),
     /// A row isn't printed.
     Stream(StreamFault),
-    /// This line of an input, counted from 1, isn't a row.
+    /// The row of this line of an input, counted from 1, doesn't fit.
     Line(usize),
-    /// No program of the guide that reads an input has this name.
+    /// No program of the guide has this name.
     Name,
     /// Out of memory.
     Memory,
@@ -78,8 +78,8 @@ impl Display for Fault {
             Fault::Print(fault) => fault.fmt(f),
             Fault::Whole(fault) => fault.fmt(f),
             Fault::Stream(fault) => fault.fmt(f),
-            Fault::Line(line) => write!(f, "line {line} isn't a row"),
-            Fault::Name => f.write_str("no program of this name reads an input"),
+            Fault::Line(line) => write!(f, "line {line} doesn't fit"),
+            Fault::Name => f.write_str("no program has this name"),
             Fault::Memory => f.write_str("out of memory"),
             Fault::Io(error) => error.fmt(f),
         }

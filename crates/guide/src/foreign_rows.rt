@@ -19,7 +19,7 @@ pub(crate) fn table_within<R: BufRead + Drop>(
     width: usize,
 ) -> Result<String, Fault> {
     let rows = rows_of(alloc, input)?;
-    Ok(picture(alloc, rows, width)?)
+    picture(alloc, rows, width).map_err(Fault::from)
 }
 
 /// How many columns there are, by the argument, else by the variable `COLUMNS`, if it is a number

@@ -21,18 +21,17 @@ const ROWS: &[&[&str]] = &[
 pub(crate) fn invoice(alloc: Global) -> Result<String, TableFault> {
     let mut table = Table::new(alloc, rows_of(alloc, ROWS)?)?
         .with_borders(Borders::modern())
-        .with_padding(Sides::spaces(1, 0));
+        .with_padding(Sides::spaces(1, 0))
+        .with_alignment(AlignmentHorizontal::Right);
     set_cells(table.config_mut())?;
     table
         .with_span_crossings(alloc, Borders::modern())?
         .to_string(alloc)
 }
 
-// Numbers at the right; the heading takes all four columns, and the word beside the total three.
+// Words at the left; the heading takes all four columns, and the word beside the total three.
 fn set_cells(config: &mut SpannedConfig) -> Result<(), AllocError> {
-    for column in 1..4 {
-        config.set_alignment_horizontal(Entity::Column(column), AlignmentHorizontal::Right)?;
-    }
+    config.set_alignment_horizontal(Entity::Column(0), AlignmentHorizontal::Left)?;
     config.set_column_span(Position::new(0, 0), 4)?;
     config.set_alignment_horizontal(Entity::Cell(0, 0), AlignmentHorizontal::Center)?;
     config.set_column_span(Position::new(4, 0), 3)

@@ -39,7 +39,7 @@ pub(crate) fn print_log<R: BufRead + Drop>(
         buf.clear();
     }
     stream.finish(&mut buf)?;
-    Ok(println!(rt; "{buf}")?)
+    println!(rt; "{buf}").map_err(Fault::from)
 }
 
 // The time of a message, up to the first space, and its words, wrapped.

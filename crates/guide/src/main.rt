@@ -1,6 +1,7 @@
 //! The program `guide`: the programs of the guide one after another, each after a line with its
 //! name. Those that read an input are tried on samples. With a word, only the program of this name
-//! runs, and reads standard input: `live_log`, or `foreign_rows 40` with the width of its table.
+//! runs, such as `invoice`; one that reads an input reads standard input: `live_log`, or
+//! `foreign_rows 40` with the width of its table.
 //!
 //! Each program is a module. None of their functions needs a proof by hand.
 #![tactic(auto)]
@@ -17,7 +18,6 @@ mod live_log;
 mod menu;
 mod price_list;
 mod record_blocks;
-mod report;
 mod rows;
 mod samples;
 mod streamed_rows;
@@ -31,6 +31,24 @@ use std::alloc::Global;
 use std::env;
 use std::io::{BufRead, Lock};
 use std::process::ExitCode;
+
+// The programs that read no input.
+const NAMES: [&str; 14] = [
+    "price_list",
+    "invoice",
+    "titled",
+    "lunch",
+    "dinner",
+    "bill",
+    "files",
+    "record_blocks",
+    "levels",
+    "timetable",
+    "streamed_rows",
+    "compact_list",
+    "told_widths",
+    "grid_calls",
+];
 
 fn main(rt: HostRuntime) -> ExitCode {
     match run(&rt) {
@@ -50,7 +68,7 @@ fn run(rt: &HostRuntime) -> Result<(), Fault> {
         Some(name) => {
             let columns = env::var(rt, "COLUMNS").ok();
             let width = foreign_rows::width_of(words.next().as_deref(), columns.as_deref());
-            print_of_input(rt, alloc, &name, width, rt.stdin().lock())
+            print_program(rt, alloc, &name, width, rt.stdin().lock())
         }
         None => {
             show_texts(rt, alloc)?;
@@ -59,66 +77,74 @@ fn run(rt: &HostRuntime) -> Result<(), Fault> {
     }
 }
 
-// Prints the text of each program that reads no input.
+// Prints the text of each program that reads no input, after a line with its name.
 fn show_texts(rt: &impl Print, alloc: Global) -> Result<(), Fault> {
-    show(rt, "price_list", price_list::prices(alloc))?;
-    show(rt, "invoice", invoice::invoice(alloc))?;
-    show(rt, "titled", titled::stock(alloc))?;
-    show(rt, "lunch", menu::lunch(alloc))?;
-    show(rt, "dinner", menu::dinner(alloc))?;
-    show(rt, "bill", bill::bill(alloc))?;
-    show(rt, "files", files::files(alloc))?;
-    show(rt, "record_blocks", record_blocks::blocks(alloc))?;
-    show(rt, "levels", levels::log(alloc))?;
-    show(rt, "timetable", timetable::week(alloc))?;
-    show(rt, "streamed_rows", streamed_rows::lists(alloc))?;
-    show(rt, "compact_list", compact_list::list(alloc))?;
-    show(rt, "told_widths", told_widths::errands(alloc))?;
-    show(rt, "grid_calls", grid_calls::tables(alloc))
+    for name in NAMES {
+        let text = text_of(alloc, name)?;
+        println!(rt; "== {name}\n{text}")?;
+    }
+    Ok(())
 }
 
-// Prints a text after a line with its name, if it was made.
-fn show<E: Into<Fault>>(rt: &impl Print, name: &str, text: Result<String, E>) -> Result<(), Fault> {
-    match text {
-        Ok(text) => Ok(println!(rt; "== {name}\n{text}")?),
-        Err(fault) => Err(fault.into()),
+// The text of the program of this name.
+fn text_of(alloc: Global, name: &str) -> Result<String, Fault> {
+    match name {
+        "timetable" => timetable::week(alloc),
+        "streamed_rows" => streamed_rows::lists(alloc),
+        "compact_list" => compact_list::list(alloc),
+        "told_widths" => told_widths::errands(alloc),
+        "grid_calls" => grid_calls::tables(alloc),
+        _ => table_of(alloc, name),
     }
+}
+
+// The text of the program of this name, one of those that make a table from rows.
+fn table_of(alloc: Global, name: &str) -> Result<String, Fault> {
+    let text = match name {
+        "price_list" => price_list::prices(alloc),
+        "invoice" => invoice::invoice(alloc),
+        "titled" => titled::stock(alloc),
+        "lunch" => menu::lunch(alloc),
+        "dinner" => menu::dinner(alloc),
+        "bill" => bill::bill(alloc),
+        "files" => files::files(alloc),
+        "record_blocks" => record_blocks::blocks(alloc),
+        "levels" => levels::log(alloc),
+        _ => return Err(Fault::Name),
+    };
+    text.map_err(Fault::from)
 }
 
 // Prints what each program makes of its sample, after a line with its name.
 fn show_samples(rt: &impl Print, alloc: Global) -> Result<(), Fault> {
     for (name, sample) in [
         ("word_counts", samples::LINES),
-        ("report", samples::LEDGER),
         ("live_log", samples::LOG),
         ("foreign_rows", samples::TEXTS),
     ] {
         println!(rt; "== {name}")?;
-        print_of_input(rt, alloc, name, 40, sample.as_bytes())?;
+        print_program(rt, alloc, name, 40, sample.as_bytes())?;
     }
-    println!(rt; "== report_of_a_bad_line")?;
-    match report::print_report(rt, alloc, samples::BAD_LEDGER.as_bytes()) {
+    println!(rt; "== word_counts_of_a_wide_line")?;
+    match word_counts::print_counts(rt, alloc, samples::WIDE_LINES.as_bytes()) {
         Ok(()) => Ok(()),
-        Err(fault) => Ok(println!(rt; "{fault}")?),
+        Err(fault) => println!(rt; "\n{fault}").map_err(Fault::from),
     }
 }
 
-// Prints what the program of this name makes of an input, within a width if it has one.
-fn print_of_input<R: BufRead + Drop>(
+// Prints the text of the program of this name: of an input if it reads one, and within a width if it has one.
+fn print_program<R: BufRead + Drop>(
     rt: &impl Print,
     alloc: Global,
     name: &str,
     width: usize,
     input: R,
 ) -> Result<(), Fault> {
-    match name {
-        "word_counts" => word_counts::print_counts(rt, alloc, input),
-        "report" => report::print_report(rt, alloc, input),
-        "live_log" => live_log::print_log(rt, alloc, input),
-        "foreign_rows" => {
-            let table = foreign_rows::table_within(alloc, input, width)?;
-            Ok(println!(rt; "{table}")?)
-        }
-        _ => Err(Fault::Name),
-    }
+    let text = match name {
+        "word_counts" => return word_counts::print_counts(rt, alloc, input),
+        "live_log" => return live_log::print_log(rt, alloc, input),
+        "foreign_rows" => foreign_rows::table_within(alloc, input, width),
+        _ => text_of(alloc, name),
+    };
+    println!(rt; "{}", text?).map_err(Fault::from)
 }

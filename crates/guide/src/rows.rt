@@ -21,5 +21,5 @@ pub(crate) fn records_of<'a>(
     alloc: Global,
     texts: &[&[&'a str]],
 ) -> Result<VecRecords<&'a str>, TableFault> {
-    Ok(VecRecords::new(rows_of(alloc, texts)?)?)
+    VecRecords::new(rows_of(alloc, texts)?).map_err(TableFault::from)
 }

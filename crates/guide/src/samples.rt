@@ -3,19 +3,12 @@
 /// Lines for `word_counts`.
 pub(crate) const LINES: &str = "one line\nand another one\nthe last\n";
 
-/// A ledger for `report`.
-pub(crate) const LEDGER: &str = "\
-2026-01-03;rent;950.00
-2026-01-04;bread and milk;7.35
-2026-01-10;books;41.90
-";
-
-/// A ledger whose third line isn't three fields.
-pub(crate) const BAD_LEDGER: &str = "\
-2026-01-03;rent;950.00
-2026-01-04;bread and milk;7.35
-2026-01-10;books
-2026-01-11;a fourth line;1.00
+/// Lines for `word_counts`, the third of which is wider than its column.
+pub(crate) const WIDE_LINES: &str = "\
+one line
+and another one
+a line that is wider than its column
+the last
 ";
 
 /// Messages for `live_log`.

@@ -11,6 +11,7 @@ mod tested_rows;
 ghost use Rattle.std.specs.Prelude.{◌≡◌, ◌++◌, map, None, OnOk, string_bytes};
 ghost use Rattle.pg_stream.specs.Printing.{printer, rows_text};
 
+use crate::fault::Fault;
 use crate::rows::rows_of;
 use crate::streamed_rows::priced_lines::append_priced_lines;
 use crate::streamed_rows::tested_rows::append_fitting;
@@ -61,77 +62,26 @@ fn append_priced(
     stream.print_all(rows.into_iter().filter(|row| row.len() == COLUMNS), buf)
 }
 
-// Appends a row for each pair.
-fn append_pairs(
+// Appends a row of these cells, and one for each line, whose parts commas separate.
+fn append_lines<'a>(
     alloc: Global,
     config: &SpannedConfig,
     dimension: &EvenDimension,
-    pairs: &[(&str, &str)],
+    first: [&'a str; COLUMNS],
+    lines: &'a str,
     buf: &mut String,
 ) -> Result<(), StreamFault> {
-    let mut stream = RowStream::new(alloc, config, dimension, &NoColors, COLUMNS, None)?;
-    for (article, price) in pairs {
-        stream = stream.push_from(alloc, [*article, *price], buf)?;
-    }
-    stream.finish(buf)
-}
-
-// Appends a row for each line, whose parts commas separate.
-fn append_lines(
-    alloc: Global,
-    config: &SpannedConfig,
-    dimension: &EvenDimension,
-    lines: &str,
-    buf: &mut String,
-) -> Result<(), StreamFault> {
-    let mut stream = RowStream::new(alloc, config, dimension, &NoColors, COLUMNS, None)?;
+    let stream = RowStream::new(alloc, config, dimension, &NoColors, COLUMNS, None)?;
+    let mut stream = stream.push_from(alloc, first, buf)?;
     for line in lines.lines() {
         stream = stream.push_from(alloc, line.split(','), buf)?;
     }
     stream.finish(buf)
 }
 
-// Rows of vectors, one of which has no price. Dashes are above each list but the first.
-fn append_vectors(
-    alloc: Global,
-    config: &SpannedConfig,
-    dimension: &EvenDimension,
-    buf: &mut String,
-) -> Result<(), StreamFault> {
-    let rows = rows_of(alloc, &[&["bread", "2.10"], &["milk", "0.95"]])?;
-    append_rows(alloc, config, dimension, &NoColors, rows, buf)?;
-    for rows in PRICED {
-        buf.push_str("\n--\n")?;
-        append_priced(alloc, config, dimension, rows_of(alloc, rows)?, buf)?;
-    }
-    Ok(())
-}
+const BAKERY: &[&[&str]] = &[&["bread", "2.10"], &["milk", "0.95"]];
 
-const PRICED: [&[&[&str]]; 3] = [
-    &[&["flour", "1.15"], &["yeast", "0.70"]],
-    &[&["salt", "0.40"], &["sugar"]],
-    &[&["rice", "1.80"]],
-];
-
-// Rows of arrays and of lines, one of which has no price, and rows one of which doesn't fit, and is
-// left out. Dashes are above each list.
-fn append_parts(
-    alloc: Global,
-    config: &SpannedConfig,
-    dimension: &EvenDimension,
-    buf: &mut String,
-) -> Result<(), StreamFault> {
-    let pairs = [("oil", "6.00"), ("oats", "1.20")];
-    buf.push_str("\n--\n")?;
-    append_pairs(alloc, config, dimension, &pairs, buf)?;
-    buf.push_str("\n--\n")?;
-    append_lines(alloc, config, dimension, "eggs,3.10\nbeans,1.05", buf)?;
-    buf.push_str("\n--\n")?;
-    append_priced_lines(alloc, config, dimension, "tea,2.40\njam,3.20\nfigs", buf)?;
-    buf.push_str("\n--\n")?;
-    let rows = rows_of(alloc, TESTED)?;
-    append_fitting(alloc, config, dimension, rows, &["sum", "6.95"], buf)
-}
+const PRICED: &[&[&str]] = &[&["flour", "1.15"], &["sugar"], &["yeast", "0.70"]];
 
 const TESTED: &[&[&str]] = &[
     &["honey", "4.75"],
@@ -139,14 +89,42 @@ const TESTED: &[&[&str]] = &[
     &["plums", "2.20"],
 ];
 
+// Appends lists: rows of vectors, of which one row has no price; rows of an array and of lines; lines
+// of which one has no price; and rows of which one doesn't fit. Dashes are between two lists.
+fn append_lists(
+    alloc: Global,
+    config: &SpannedConfig,
+    dimension: &EvenDimension,
+    buf: &mut String,
+) -> Result<(), StreamFault> {
+    let bakery = rows_of(alloc, BAKERY)?;
+    append_rows(alloc, config, dimension, &NoColors, bakery, buf)?;
+    buf.push_str("\n--\n")?;
+    let priced = rows_of(alloc, PRICED)?;
+    append_priced(alloc, config, dimension, priced, buf)?;
+    buf.push_str("\n--\n")?;
+    append_lines(
+        alloc,
+        config,
+        dimension,
+        ["oil", "6.00"],
+        "eggs,3.10\nbeans,1.05",
+        buf,
+    )?;
+    buf.push_str("\n--\n")?;
+    append_priced_lines(alloc, config, dimension, "tea,2.40\njam,3.20\nfigs", buf)?;
+    buf.push_str("\n--\n")?;
+    let tested = rows_of(alloc, TESTED)?;
+    append_fitting(alloc, config, dimension, tested, &["sum", "6.95"], buf)
+}
+
 /// All of them, separated by dashes.
-pub(crate) fn lists(alloc: Global) -> Result<String, StreamFault> {
+pub(crate) fn lists(alloc: Global) -> Result<String, Fault> {
     let mut config = SpannedConfig::new(alloc);
     set_look(&mut config)?;
     let widths = vec![in alloc; 10, 8]?;
     let dimension = EvenDimension { widths, height: 1 };
     let mut buf = String::new(alloc);
-    append_vectors(alloc, &config, &dimension, &mut buf)?;
-    append_parts(alloc, &config, &dimension, &mut buf)?;
+    append_lists(alloc, &config, &dimension, &mut buf)?;
     Ok(buf)
 }

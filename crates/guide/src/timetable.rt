@@ -26,7 +26,8 @@ pub(crate) fn week(alloc: Global) -> Result<String, Fault> {
     let mut config = SpannedConfig::new(alloc);
     set_look(&mut config)?;
     set_spans(&mut config)?;
-    Ok(PeekableGrid::new(records, &config, dimension, colors).text(alloc)?)
+    let grid = PeekableGrid::new(records, &config, dimension, colors);
+    grid.text(alloc).map_err(Fault::from)
 }
 
 // The widths of the columns, and the heights of the rows.

@@ -6,12 +6,13 @@
 //! ```
 //!
 //! It shows rows that come one at a time, in unknown number: no call has a precondition, and none
-//! of this needs a proof by hand.
+//! of this needs a proof by hand. The first line whose row doesn't fit ends it: the rows above it
+//! stay.
 
 use crate::fault::Fault;
 use pg_config::SpannedConfig;
 use pg_layout::{AlignmentHorizontal, Borders, Entity, EvenDimension, NoColors, Sides};
-use pg_stream::RowStream;
+use pg_stream::{RowStream, StreamFault};
 use std::alloc::{AllocError, Global};
 use std::io::BufRead;
 
@@ -28,12 +29,21 @@ pub(crate) fn print_counts<R: BufRead + Drop>(
     let mut stream = RowStream::new(alloc, &config, &dimension, &NoColors, 2, None)?;
     let mut buf = String::new(alloc);
     for line in input.lines(alloc) {
-        stream = stream.push(counted(alloc, line?)?, &mut buf)?;
+        let row = counted(alloc, line?)?;
+        stream = stream.push(row, &mut buf).map_err(line_fault)?;
         print!(rt; "{buf}")?;
         buf.clear();
     }
-    stream.finish(&mut buf)?;
-    Ok(println!(rt; "{buf}")?)
+    stream.finish(&mut buf).map_err(line_fault)?;
+    println!(rt; "{buf}").map_err(Fault::from)
+}
+
+// The fault of a stream by the number of a line: row 0 is line 1.
+fn line_fault(fault: StreamFault) -> Fault {
+    match fault {
+        StreamFault::Row(row) => Fault::Line(row.saturating_add(1)),
+        other => Fault::Stream(other),
+    }
 }
 
 // The number of a line's words, and the line.

@@ -5,40 +5,18 @@ use pg_grid::{CompactGrid, IterGrid, PeekableGrid, PrintFault};
 use pg_layout::{ConstantDimension, NoColors, VecRecords};
 use std::alloc::{AllocError, Global};
 
-/// The text of the table.
-pub(crate) fn text(
-    alloc: Global,
+/// Appends the table twice, as the looked-up grid builds it: one test serves both.
+pub(crate) fn push_twice(
     records: &VecRecords<String>,
     config: &SpannedConfig,
     dimension: &ConstantDimension,
-) -> Result<String, PrintFault> {
+    buf: &mut String,
+) -> Result<(), PrintFault> {
     let grid = PeekableGrid::new(records, config, dimension, &NoColors);
     grid.fits()?;
-    Ok(grid.to_string(alloc)?)
-}
-
-/// The text of the table, as the streaming grid gives it.
-pub(crate) fn streamed_text(
-    alloc: Global,
-    records: VecRecords<String>,
-    config: &SpannedConfig,
-    dimension: &ConstantDimension,
-) -> Result<String, PrintFault> {
-    let grid = IterGrid::new(records, config, dimension, &NoColors);
-    grid.fits()?;
-    Ok(grid.to_string(alloc)?)
-}
-
-/// The text of the table, as the compact grid gives it.
-pub(crate) fn compact_text(
-    alloc: Global,
-    records: &VecRecords<String>,
-    config: &CompactConfig,
-    dimension: &ConstantDimension,
-) -> Result<String, PrintFault> {
-    let grid = CompactGrid::new(records, config, dimension, &NoColors);
-    grid.fits()?;
-    Ok(grid.to_string(alloc)?)
+    grid.build(buf)?;
+    buf.push('\n')?;
+    grid.build(buf).map_err(PrintFault::from)
 }
 
 /// The text of the table in the first of these sizes that it fits in, if there is one.
@@ -57,44 +35,26 @@ pub(crate) fn text_of_first_fit(
     Ok(None)
 }
 
-/// Appends the table twice, as the looked-up grid builds it: one test serves both.
-pub(crate) fn push_twice(
-    records: &VecRecords<String>,
-    config: &SpannedConfig,
-    dimension: &ConstantDimension,
-    buf: &mut String,
-) -> Result<(), PrintFault> {
-    let grid = PeekableGrid::new(records, config, dimension, &NoColors);
-    grid.fits()?;
-    grid.build(buf)?;
-    buf.push('\n')?;
-    grid.build(buf)?;
-    Ok(())
-}
-
-/// Appends the table, as the streaming grid builds it, or a line in its place if it doesn't fit.
-pub(crate) fn push_streamed(
+/// The text of the table, as the streaming grid gives it.
+pub(crate) fn streamed_text(
     alloc: Global,
     records: VecRecords<String>,
     config: &SpannedConfig,
     dimension: &ConstantDimension,
-    buf: &mut String,
-) -> Result<(), AllocError> {
+) -> Result<String, PrintFault> {
     let grid = IterGrid::new(records, config, dimension, &NoColors);
-    if grid.fits().is_err() {
-        return buf.push_str("the table does not fit");
-    }
-    grid.build(alloc, buf)
+    grid.fits()?;
+    grid.to_string(alloc).map_err(PrintFault::from)
 }
 
-/// Appends the table, as the compact grid builds it.
-pub(crate) fn push_compact(
+/// The text of the table, as the compact grid gives it.
+pub(crate) fn compact_text(
+    alloc: Global,
     records: &VecRecords<String>,
     config: &CompactConfig,
     dimension: &ConstantDimension,
-    buf: &mut String,
-) -> Result<(), PrintFault> {
+) -> Result<String, PrintFault> {
     let grid = CompactGrid::new(records, config, dimension, &NoColors);
     grid.fits()?;
-    Ok(grid.build(buf)?)
+    grid.to_string(alloc).map_err(PrintFault::from)
 }

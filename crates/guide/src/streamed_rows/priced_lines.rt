@@ -55,6 +55,8 @@ pub(crate) fn append_priced_lines(
         Ok(()) => Ok(()),
         Err(RowsFault::Stream(fault)) => Err(fault),
         Err(RowsFault::Source(LineFault::Memory)) => Err(StreamFault::Memory),
-        Err(RowsFault::Source(LineFault::NoPrice)) => Ok(buf.push_str("\nno price")?),
+        Err(RowsFault::Source(LineFault::NoPrice)) => {
+            buf.push_str("\nno price").map_err(StreamFault::from)
+        }
     }
 }

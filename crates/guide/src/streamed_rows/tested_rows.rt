@@ -37,5 +37,5 @@ fn append_last(
         return Err(StreamFault::Row(printer.rows()));
     }
     let printer = printer.row_of(cells, true, buf)?;
-    Ok(printer.finish(buf)?)
+    printer.finish(buf).map_err(StreamFault::from)
 }
