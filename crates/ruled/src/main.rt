@@ -9,7 +9,7 @@ mod waiting;
 use crate::arguments::{Asked, Wanted, read_arguments};
 use crate::logs::log_beside;
 use crate::waiting::Waiting;
-use ruled_io::{Output, Quoted, Request, Source, run};
+use ruled_io::{Output, Pieces, Quoted, Request, Source, run};
 use std::fs::File;
 use std::io::{BufWriter, ErrorKind, Read, Write};
 use std::process::ExitCode;
@@ -40,8 +40,8 @@ fn open(rt: &HostRuntime, name: &str, request: &mut Request) -> io::Result<File>
 // Shows the table of an input, and returns the exit status.
 fn show_input<R: Read + Drop>(rt: &HostRuntime, request: &Request, input: R) -> io::Result<u8> {
     let mut out = Output::new(BufWriter::new(rt.alloc(), rt.stdout())?);
-    let input = Waiting::new(*rt, input);
-    let status = run(rt.alloc(), request, input, &mut out, &mut rt.stderr()).status();
+    let mut input = Pieces::new(Waiting::new(*rt, input));
+    let status = run(rt.alloc(), request, &mut input, &mut out, &mut rt.stderr()).status();
     // What a write that failed has left isn't written once more.
     let _parts = out.into_writer().into_parts();
     Ok(status)

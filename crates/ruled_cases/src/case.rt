@@ -1,7 +1,7 @@
 //! Cases of a file.
 
 use crate::words::{push_bytes, push_input, set_bytes, set_option, split_times};
-use ruled_io::{Format, Log, Output, Request, RowRules, Rows, Source, run};
+use ruled_io::{Format, Log, Output, Pieces, Request, RowRules, Rows, Source, run};
 use ruled_table::{Bounds, Breaking, Look, Options, Overflow};
 use std::alloc::{AllocError, Global};
 use std::io;
@@ -161,8 +161,8 @@ impl Case {
     /// Runs the case, and returns whether it ends as the file says. Other output is printed.
     pub(crate) fn is_as_told(&self, rt: &HostRuntime) -> io::Result<bool> {
         let (mut out, mut err) = (Output::new(Vec::new(rt.alloc())), Vec::new(rt.alloc()));
-        let input = self.input.as_slice();
-        let status = run(rt.alloc(), &self.request, input, &mut out, &mut err).status();
+        let mut input = Pieces::new(self.input.as_slice());
+        let status = run(rt.alloc(), &self.request, &mut input, &mut out, &mut err).status();
         let out = out.into_writer();
         let is_right = status == self.status
             && out.as_slice() == self.shown.as_bytes()

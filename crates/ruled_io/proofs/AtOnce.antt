@@ -1,10 +1,10 @@
 -- Rows that are written when all of them are there, and a run at once and one row by row.
-use Rattle.std.proofs.Common.{◌≡◌, ◌∙◌, ◌<◌, ℕ, Bool, true, false, List, [], ◌∷◌, ◌++◌, Option, Some, None, Result, Ok, Err, OnErr, OnOk, drop, length, map, append-nil, refl, sym, ap, subst, arith}
+use Rattle.std.proofs.Common.{◌≡◌, ◌∙◌, ◌<◌, ℕ, Bool, true, false, List, [], ◌∷◌, ◌++◌, Option, Some, None, Result, Ok, Err, OnErr, OnOk, drop, length, map, refl, sym, ap, subst, arith}
 use Rattle.std.specs.Prelude.{IfErr, not, IfSome}
 use Rattle.std.specs.List.{flat_map}
 use Rattle.std.specs.Option.{option_or}
-use Rattle.std.specs.Io.KnownBytes.{Appends, Keeps}
-use Rattle.std.specs.Result.{IsErrAnd}
+use Rattle.std.specs.Io.KnownBytes.{Appends}
+use Rattle.std.specs.Result.{IsErrAnd, result_err}
 use Rattle.std.proofs.KnownBytes.{Appends-nil, Keeps-refl}
 use Rattle.std.proofs.lemmas.Bool.{false≢true, true≢false}
 use Rattle.pg_layout.specs.Text.{Text}
@@ -21,8 +21,9 @@ use Rattle.ruled_table.specs.declared.fault.ViewFault.{ViewFault}
 use Rattle.ruled_table.specs.declared.fault.ViewFault.TheVariants as view
 use Rattle.ruled_table.specs.declared.options.Options.{Options}
 use Rattle.ruled_table.specs.declared.table_rows.TableRows.{TableRows}
-use Rattle.ruled_io.specs.Faults.{is_early, is_memory, is_of_write, is_read, of_view}
-use Rattle.ruled_io.specs.Steps.{Draws, DrawsInMemory, EndsBelow, FailsIn, Grows, Nears, WritesRows}
+use Rattle.ruled_io.specs.Faults.{is_early, is_of_write, is_read, of_view}
+use Rattle.ruled_io.specs.Reading.{ReportsRead}
+use Rattle.ruled_io.specs.Steps.{Draws, DrawsInMemory, EndsBelow, Nears, WritesRows}
 use Rattle.ruled_io.specs.Output.{Begins}
 use Rattle.ruled_io.specs.declared.fault.RunFault.{RunFault}
 use Rattle.ruled_io.specs.declared.fault.RunFault.TheVariants.{Input, Read, Closed, Write}
@@ -56,6 +57,30 @@ draws-so text wrong old new (Err Write) (read, early, begun) = begun
 pub writes-only : {X : Type 0} (result : Result X RunFault) → ((fault : RunFault) → result ≡ Err fault → is_of_write fault ≡ true) → IfErr result (λ fault. is_read fault ≡ false)
 writes-only (Ok x) failed = tt
 writes-only (Err fault) failed = (of-write fault (failed fault refl)).0
+
+-- where no read failed, none is reported
+pub no-read : {X : Type 0} (failed : Bool) (result : Result X RunFault) → IfErr result (λ fault. is_read fault ≡ false) → ReportsRead failed result
+no-read failed (Ok x) unread = tt
+no-read failed (Err fault) unread = λ read. absurd (true≢false (sym read ∙ unread))
+
+-- a fault that is handed on reports what it did
+pub read-handed : {X : Type 0} (failed : Bool) (found : RunFault) (result : Result X RunFault) → IsErrAnd result (λ fault. fault ≡ found) → (is_read found ≡ true → failed ≡ true) → ReportsRead failed result
+read-handed failed found (Ok x) is noted = absurd is
+read-handed failed found (Err fault) is noted = λ read. noted (sym (ap is_read is) ∙ read)
+
+pub write-handed : {X : Type 0} (failed : Bool) (found : RunFault) (result : Result X RunFault) → is_of_write found ≡ true → IsErrAnd result (λ fault. fault ≡ found) → ReportsRead failed result
+write-handed failed found result writes is = read-handed failed found result is (λ read. absurd (true≢false (sym read ∙ (of-write found writes).0)))
+
+pub draws-unread : (failed : Bool) (text : Text) (wrong : Option ViewFault) (old new : Option (List ℕ)) (found : RunFault) → Draws text wrong old new {X = Unit {0}} (Err found) → is_read found ≡ true → failed ≡ true
+draws-unread failed text wrong old new (Input fault) draws read = absurd (false≢true read)
+draws-unread failed text wrong old new Read draws read = absurd draws
+draws-unread failed text wrong old new Closed draws read = absurd (false≢true read)
+draws-unread failed text wrong old new Write draws read = absurd (false≢true read)
+
+-- what a result says of a read, its fault does
+pub read-noted : {X : Type 0} (failed : Bool) (result : Result X RunFault) → ReportsRead failed result → result_err result ≡ Some Read → failed ≡ true
+read-noted failed (Ok x) noted is = cc
+read-noted failed (Err fault) noted is = noted (let same : fault ≡ Read = cc in ap is_read same)
 
 -- a text is written
 pub written-draws : {X : Type 0} (text bytes : Text) (wrong : Option ViewFault) (old new : Option (List ℕ)) (result : Result X RunFault) → bytes ≡ text → wrong ≡ None → OnOk result (Appends old new bytes) → OnErr result (Begins old new bytes)

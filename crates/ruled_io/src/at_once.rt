@@ -14,6 +14,7 @@ ghost use Rattle.ruled_table.specs.Plans.{Plan};
 ghost use Rattle.ruled_table.specs.View.{table_fault, table_text, whole_fault, whole_table};
 ghost use Rattle.ruled_io.specs.Faults.{is_early, is_read};
 ghost use Rattle.ruled_io.specs.Output.{TellsWrite, failure_of, write_part, Begins};
+ghost use Rattle.ruled_io.specs.Reading.{ReportsRead, has_failed};
 ghost use Rattle.ruled_io.specs.Requests.{rows_needed};
 ghost use Rattle.ruled_io.specs.Runs.{AreRows, CausedAtOnce, LacksInput, ShowsAll};
 ghost use Rattle.ruled_io.specs.Steps.{Draws, DrawsInMemory};
@@ -34,14 +35,15 @@ use std::io::{Read, Write};
 fn read_rows<R: Read + Drop>(
     alloc: Global,
     request: &Request,
-    input: R,
+    pieces: &mut Pieces<R>,
 ) -> Result<Vec<StringRecord>, RunFault>
-    ensures rows { IfOk result (λ rows. IfSome (R.remaining input) (λ bytes. AreRows (rows_needed request.now.view) request.now.source bytes (map fields_of rows.items))) }
-    ensures cause { IfErr result (λ fault. IfSome (R.remaining input) (λ bytes. LacksInput (rows_needed request.now.view) request.now.source bytes fault)) }
+    ensures rows { IfOk result (λ rows. IfSome (R.remaining pieces.old.input) (λ bytes. AreRows (rows_needed request.now.view) request.now.source bytes (map fields_of rows.items))) }
+    ensures cause { IfErr result (λ fault. IfSome (R.remaining pieces.old.input) (λ bytes. LacksInput (rows_needed request.now.view) request.now.source bytes fault)) }
     ensures unwritten { IfErr result (λ fault. write_part fault ≡ None) }
+    ensures noted { ReportsRead (has_failed pieces.new) result }
 {
     let limit = rows_needed(&request.view).unwrap_or(usize::MAX);
-    let rows = read_heads(alloc, &request.source, limit, &mut Pieces::new(input))?;
+    let rows = read_heads(alloc, &request.source, limit, pieces)?;
     if rows.len() == usize::MAX {
         return Err(RunFault::Input(InputFault::Memory));
     }
@@ -192,15 +194,16 @@ fn show_rows<W: Write + Drop>(
 pub(crate) fn show_at_once<R: Read + Drop, W: Write + Drop>(
     alloc: Global,
     request: &Request,
-    input: R,
+    pieces: &mut Pieces<R>,
     out: &mut Output<W>,
 ) -> Result<(), RunFault>
-    ensures shown { OnOk result (IfSome (R.remaining input) (λ bytes. (text : _) × ShowsAll request.now bytes text × Appends (W.contents out.old.writer) (W.contents out.new.writer) text)) }
-    ensures cause { IfErr result (λ fault. IfSome (R.remaining input) (λ bytes. CausedAtOnce request.now bytes fault (W.contents out.old.writer) (W.contents out.new.writer))) }
+    ensures shown { OnOk result (IfSome (R.remaining pieces.old.input) (λ bytes. (text : _) × ShowsAll request.now bytes text × Appends (W.contents out.old.writer) (W.contents out.new.writer) text)) }
+    ensures cause { IfErr result (λ fault. IfSome (R.remaining pieces.old.input) (λ bytes. CausedAtOnce request.now bytes fault (W.contents out.old.writer) (W.contents out.new.writer))) }
     ensures unwritten { IfErr result (λ fault. is_early fault ≡ true → Keeps (W.contents out.old.writer) (W.contents out.new.writer)) }
     ensures told { TellsWrite (failure_of out.old) (failure_of out.new) result }
+    ensures noted { ReportsRead (has_failed pieces.new) result }
 {
-    let rows = read_rows(alloc, request, input)?;
+    let rows = read_rows(alloc, request, pieces)?;
     show_rows(alloc, &request.view, rows, out)?;
     out.flush()
 }

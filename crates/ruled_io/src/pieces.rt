@@ -3,8 +3,8 @@
 ghost use Rattle.std.specs.Prelude.{◌≡◌, ◌≤◌, ◌<◌, ◌++◌, ℕ, List, length, take, map, true, false, Err, Ok, IfErr, IfOk, IfSome, OnOk};
 ghost use Rattle.std.specs.Io.KnownBytes.{Consumes, IsAtEnd};
 ghost use Rattle.csv.specs.Records.{fields_of};
-ghost use Rattle.ruled_io.specs.Faults.{IsOfRead};
-ghost use Rattle.ruled_io.specs.Reading.{BeginsSo, GoesOn, ReadsFront, Stands};
+ghost use Rattle.ruled_io.specs.Faults.{IsOfRead, is_read};
+ghost use Rattle.ruled_io.specs.Reading.{BeginsSo, GoesOn, ReadsFront, ReportsRead, Stands, has_failed, left_in};
 ghost use Rattle.ruled_io.specs.declared.formats.Format.{Format};
 ghost use Rattle.ruled_io.specs.declared.reader.Reading.{Reading};
 
@@ -17,32 +17,40 @@ use std::alloc::Global;
 use std::io;
 use std::io::{ErrorKind, Read};
 
-/// An input whose bytes are read piece by piece.
+/// An input whose bytes are read piece by piece, and of which it is known whether a read has failed.
 #[derive(Drop)]
-pub(crate) struct Pieces<R: Drop> {
+pub struct Pieces<R: Drop> {
     input: R,
     // The piece that was read last, at its front.
     buffer: [u8; 8192],
-}
-
-// The fault of a reader's error.
-fn fault_of_read(error: io::Error) -> RunFault
-    ensures { IsOfRead result }
-{
-    match error.kind() {
-        ErrorKind::OutOfMemory => RunFault::Input(InputFault::Memory),
-        _ => RunFault::Read,
-    }
+    /// Whether a read has failed, other than for memory. Only what the reader says sets it.
+    has_failed: bool,
 }
 
 impl<R: Read + Drop> Pieces<R> {
     /// An input, of which nothing is read.
-    pub(crate) fn new(input: R) -> Pieces<R>
-        ensures { result.input ≡ input }
+    pub fn new(input: R) -> Pieces<R>
+        ensures left { left_in R.remaining result ≡ R.remaining input }
+        ensures fine { has_failed result ≡ false }
     {
         Pieces {
             input,
             buffer: [0; 8192],
+            has_failed: false,
+        }
+    }
+
+    // Notes that a read failed with this error, and returns the fault of the run.
+    fn failed(&mut self, error: io::Error) -> RunFault
+        ensures failed { IsOfRead result }
+        ensures noted { is_read result ≡ true → has_failed self.new ≡ true }
+    {
+        match error.kind() {
+            ErrorKind::OutOfMemory => RunFault::Input(InputFault::Memory),
+            _ => {
+                self.has_failed = true;
+                RunFault::Read
+            }
         }
     }
 
@@ -52,15 +60,16 @@ impl<R: Read + Drop> Pieces<R> {
         ensures piece { IfOk result (λ count. Consumes (R.remaining self.old.input) (R.remaining self.new.input) (take count self.new.buffer)) }
         ensures end { IfOk result (λ count. count ≡ 0 → IsAtEnd (R.remaining self.old.input)) }
         ensures failed { IfErr result IsOfRead }
+        ensures noted { ReportsRead (has_failed self.new) result }
     {
         for _ in 0..usize::MAX {
             match self.input.read(&mut self.buffer) {
                 Ok(count) => return Ok(count),
                 Err(error) if error.kind() == ErrorKind::Interrupted => {}
-                Err(error) => return Err(fault_of_read(error)),
+                Err(error) => return Err(self.failed(error)),
             }
         }
-        Err(RunFault::Read)
+        Err(self.failed(ErrorKind::Interrupted.into()))
     }
 
     // Reads on until the bytes show what the input is, or to the end.
@@ -68,6 +77,7 @@ impl<R: Read + Drop> Pieces<R> {
         ensures read { IfOk result (λ front. Consumes (R.remaining self.old.input) (R.remaining self.new.input) front.items) }
         ensures shown { IfOk result (λ front. IfSome (R.remaining self.old.input) (BeginsSo known front.items)) }
         ensures failed { IfErr result IsOfRead }
+        ensures noted { ReportsRead (has_failed self.new) result }
     {
         let mut front = Vec::new(alloc);
         for _ in 0..usize::MAX {
@@ -80,13 +90,14 @@ impl<R: Read + Drop> Pieces<R> {
             }
             front.extend_from_slice(&self.buffer[..count])?;
         }
-        Err(RunFault::Read)
+        Err(RunFault::Input(InputFault::Memory))
     }
 
     /// Reads the first bytes of an input, as many as show what it is and which bytes hold its rows.
     pub(crate) fn read_front(&mut self, alloc: Global, source: &Source) -> Result<Vec<u8>, RunFault>
         ensures read { IfOk result (λ front. IfSome (R.remaining self.old.input) (λ all. ReadsFront source.now all (R.remaining self.new.input) front.items)) }
         ensures failed { IfErr result IsOfRead }
+        ensures noted { ReportsRead (has_failed self.new) result }
     {
         self.read_shown(alloc, source.known())
     }
@@ -95,6 +106,7 @@ impl<R: Read + Drop> Pieces<R> {
     pub(crate) fn read_rest(&mut self, bytes: &mut Vec<u8>) -> Result<(), RunFault>
         ensures read { OnOk result (IfSome (R.remaining self.old.input) (λ rest. bytes.new.items ≡ bytes.old.items ++ rest)) }
         ensures failed { IfErr result IsOfRead }
+        ensures noted { ReportsRead (has_failed self.new) result }
     {
         for _ in 0..usize::MAX {
             let count = self.read()?;
@@ -103,7 +115,7 @@ impl<R: Read + Drop> Pieces<R> {
             }
             bytes.extend_from_slice(&self.buffer[..count])?;
         }
-        Err(RunFault::Read)
+        Err(RunFault::Input(InputFault::Memory))
     }
 
     /// Reads the next bytes, and appends the rows that are complete with them.
@@ -116,6 +128,7 @@ impl<R: Read + Drop> Pieces<R> {
             → Stands format records all (R.remaining self.old.input) given (Reading.More reader)
             → IfOk result (GoesOn format records all (R.remaining self.new.input) given (map fields_of rows.old.items) (map fields_of rows.new.items)) }
         ensures failed { IfErr result IsOfRead }
+        ensures noted { ReportsRead (has_failed self.new) result }
     {
         let count = self.read()?;
         if count == 0 {

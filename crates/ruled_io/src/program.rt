@@ -5,6 +5,7 @@ ghost use Rattle.std.specs.Io.KnownBytes.{Appends, Keeps};
 ghost use Rattle.std.specs.Result.{result_err};
 ghost use Rattle.ruled_io.specs.Faults.{is_early, status_after};
 ghost use Rattle.ruled_io.specs.Output.{TellsWrite, failure_of, fault_written, written};
+ghost use Rattle.ruled_io.specs.Reading.{ReportsRead, has_failed, left_in};
 ghost use Rattle.ruled_io.specs.Runs.{Caused, Shows};
 ghost use Rattle.ruled_io.specs.declared.fault.RunFault.{RunFault};
 ghost use Rattle.ruled_io.specs.declared.request.Rows.{Rows};
@@ -12,6 +13,7 @@ ghost use Rattle.ruled_io.specs.declared.request.Rows.{Rows};
 use crate::at_once::show_at_once;
 use crate::fault::RunFault;
 use crate::output::Output;
+use crate::pieces::Pieces;
 use crate::request::{Request, Rows};
 use crate::stream::stream;
 use std::alloc::Global;
@@ -40,17 +42,18 @@ impl Ending {
 fn show<R: Read + Drop, W: Write + Drop>(
     alloc: Global,
     request: &Request,
-    input: R,
+    pieces: &mut Pieces<R>,
     out: &mut Output<W>,
 ) -> Result<(), RunFault>
-    ensures shown { OnOk result (IfSome (R.remaining input) (λ bytes. (text : _) × Shows request.now bytes text × Appends (W.contents out.old.writer) (W.contents out.new.writer) text)) }
-    ensures cause { IfErr result (λ fault. IfSome (R.remaining input) (λ bytes. Caused request.now bytes fault (W.contents out.old.writer) (W.contents out.new.writer))) }
+    ensures shown { OnOk result (IfSome (R.remaining pieces.old.input) (λ bytes. (text : _) × Shows request.now bytes text × Appends (W.contents out.old.writer) (W.contents out.new.writer) text)) }
+    ensures cause { IfErr result (λ fault. IfSome (R.remaining pieces.old.input) (λ bytes. Caused request.now bytes fault (W.contents out.old.writer) (W.contents out.new.writer))) }
     ensures unwritten { request.now.rows ≡ Rows.AtOnce → IfErr result (λ fault. is_early fault ≡ true → Keeps (W.contents out.old.writer) (W.contents out.new.writer)) }
     ensures told { TellsWrite (failure_of out.old) (failure_of out.new) result }
+    ensures noted { ReportsRead (has_failed pieces.new) result }
 {
     match request.rows {
-        Rows::AtOnce => show_at_once(alloc, request, input, out),
-        Rows::FromFirst(count) => stream(alloc, request, count, input, out),
+        Rows::AtOnce => show_at_once(alloc, request, pieces, out),
+        Rows::FromFirst(count) => stream(alloc, request, count, pieces, out),
     }
 }
 
@@ -89,18 +92,20 @@ fn ending_of<W: Write>(answer: Result<(), RunFault>, request: &Request, err: &mu
 /// whose lines can't be counted.
 ///
 /// Each fault is one line on `err`, except that nothing is reported where nobody reads what is written. A failed write
-/// to `err` changes no result. `Closed` and `Write` are returned if a write to `out` has failed so, and only then.
+/// to `err` changes no result. `Closed` and `Write` are returned if a write to `out` has failed so, and only then;
+/// `Read` only if a read of `input` has failed.
 pub fn run<R: Read + Drop, W1: Write + Drop, W2: Write>(
     alloc: Global,
     request: &Request,
-    input: R,
+    input: &mut Pieces<R>,
     out: &mut Output<W1>,
     err: &mut W2,
 ) -> Ending
-    ensures shown { result.fault ≡ None → IfSome (R.remaining input) (λ bytes. (text : _) × Shows request.now bytes text × Appends (written W1.contents out.old) (written W1.contents out.new) text) }
-    ensures cause { IfSome result.fault (λ fault. IfSome (R.remaining input) (λ bytes. Caused request.now bytes fault (written W1.contents out.old) (written W1.contents out.new))) }
+    ensures shown { result.fault ≡ None → IfSome (left_in R.remaining input.old) (λ bytes. (text : _) × Shows request.now bytes text × Appends (written W1.contents out.old) (written W1.contents out.new) text) }
+    ensures cause { IfSome result.fault (λ fault. IfSome (left_in R.remaining input.old) (λ bytes. Caused request.now bytes fault (written W1.contents out.old) (written W1.contents out.new))) }
     ensures unwritten { request.now.rows ≡ Rows.AtOnce → IfSome result.fault (λ fault. is_early fault ≡ true → Keeps (written W1.contents out.old) (written W1.contents out.new)) }
     ensures failed { failure_of out.old ≡ None → failure_of out.new ≡ fault_written result.fault }
+    ensures read { result.fault ≡ Some RunFault.Read → has_failed input.new ≡ true }
     ensures silent { result.fault ≡ None → Keeps (W2.contents err.old) (W2.contents err.new) }
     ensures closed { result.fault ≡ Some RunFault.Closed → Keeps (W2.contents err.old) (W2.contents err.new) }
 {

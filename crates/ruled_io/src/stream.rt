@@ -1,13 +1,13 @@
 //! Rows that are shown one after another, each when it comes.
 
-ghost use Rattle.std.specs.Prelude.{◌≡◌, ◌<◌, ◌++◌, ◌∷◌, [], ℕ, List, None, Some, map, option_map, take, false, true, Err, IfErr, IfOk, IfSome, OnOk};
+ghost use Rattle.std.specs.Prelude.{◌≡◌, ◌<◌, ◌++◌, ◌∷◌, [], ℕ, Bool, List, None, Some, map, option_map, take, false, true, Err, IfErr, IfOk, IfSome, OnOk};
 ghost use Rattle.std.specs.Io.KnownBytes.{Keeps};
 ghost use Rattle.csv.specs.Records.{fields_of};
 ghost use Rattle.ruled_table.specs.Appended.{HasAppended};
 ghost use Rattle.ruled_table.specs.Plans.{Plan};
 ghost use Rattle.ruled_io.specs.Faults.{IsOfRead, but_line_in, is_failure, is_of_write};
 ghost use Rattle.ruled_io.specs.Output.{TellsWrite, failure_in, failure_of};
-ghost use Rattle.ruled_io.specs.Reading.{Stands, sound_rows, wrong_in};
+ghost use Rattle.ruled_io.specs.Reading.{ReportsRead, Stands, has_failed, sound_rows, wrong_in};
 ghost use Rattle.ruled_io.specs.Steps.{EndsBelow, IsEnough, wrong_within};
 ghost use Rattle.ruled_io.specs.Stream.{Ends, StreamsAll, first_count, has_names, record_count};
 ghost use Rattle.ruled_io.specs.declared.fault.RunFault.{RunFault};
@@ -40,6 +40,7 @@ fn write_table<R: Read + Drop, W: Write + Drop>(
         → HasAppended options plan above table.entry
         → EndsBelow options plan (sound_rows format records all) (wrong_in format records all) above (W.contents out.old.writer) (W.contents out.new.writer) result }
     ensures told { TellsWrite (failure_of out.old) (failure_of out.new) result }
+    ensures noted { ReportsRead (has_failed pieces.new) result }
 {
     let mut buf = String::new(alloc);
     for _ in 0..usize::MAX {
@@ -53,7 +54,7 @@ fn write_table<R: Read + Drop, W: Write + Drop>(
             }
         }
     }
-    Err(RunFault::Read)
+    Err(RunFault::Input(InputFault::Memory))
 }
 
 /// Reads on until so many rows are there, or all.
@@ -68,6 +69,7 @@ pub(crate) fn read_first<R: Read + Drop>(
         → IfOk result (Stands format records all (R.remaining pieces.new.input) (map fields_of rows.new.items)) }
     ensures enough { IfOk result (IsEnough count (map fields_of rows.new.items)) }
     ensures failed { IfErr result IsOfRead }
+    ensures noted { ReportsRead (has_failed pieces.new) result }
 {
     for _ in 0..usize::MAX {
         match reading {
@@ -80,7 +82,7 @@ pub(crate) fn read_first<R: Read + Drop>(
             }
         }
     }
-    Err(RunFault::Read)
+    Err(RunFault::Input(InputFault::Memory))
 }
 
 /// What keeps the first rows from being shown: they end at a bad one.
@@ -107,6 +109,7 @@ fn show_table<R: Read + Drop, W: Write + Drop>(
         → Stands format records all (R.remaining pieces.old.input) (map fields_of rows.items) reading
         → Ends options.now count (sound_rows format records all) (wrong_in format records all) (W.contents out.old.writer) (W.contents out.new.writer) result }
     ensures told { TellsWrite (failure_of out.old) (failure_of out.new) result }
+    ensures noted { ReportsRead (has_failed pieces.new) result }
 {
     if let Some(fault) = wrong_within(&reading, count, rows.len()) {
         return Err(RunFault::Input(fault));
@@ -162,6 +165,7 @@ fn show_rows<R: Read + Drop, W: Write + Drop>(
     ensures ends { (rest : List ℕ) → R.remaining pieces.old.input ≡ Some rest
         → Ends options.now (first_count options.now format count) (sound_rows format (record_count count) (front.now ++ rest)) (wrong_in format (record_count count) (front.now ++ rest)) (W.contents out.old.writer) (W.contents out.new.writer) result }
     ensures told { TellsWrite (failure_of out.old) (failure_of out.new) result }
+    ensures noted { ReportsRead (has_failed pieces.new) result }
 {
     let mut rows = Vec::new(alloc);
     let reading = Reading::of_front(alloc, format, record_count(count), front, &mut rows)?;
@@ -180,6 +184,7 @@ fn show_input<R: Read + Drop, W: Write + Drop>(
 ) -> Result<(), RunFault>
     ensures ends { IfSome (R.remaining pieces.old.input) (λ bytes. StreamsAll request.now count bytes (W.contents out.old.writer) (W.contents out.new.writer) result) }
     ensures told { TellsWrite (failure_of out.old) (failure_of out.new) result }
+    ensures noted { ReportsRead (has_failed pieces.new) result }
 {
     let front = pieces.read_front(alloc, &request.source)?;
     if request.source.is_database(&front) {
@@ -198,6 +203,7 @@ fn show_to_end<W: Write + Drop>(
     ensures kept { Keeps (W.contents out.old.writer) (W.contents out.new.writer) }
     ensures fine { OnOk result (answer ≡ result) }
     ensures early { (fault : RunFault) → result ≡ Err fault → is_failure fault ≡ false → answer ≡ result }
+    ensures noted { (failed : Bool) → ReportsRead failed answer → ReportsRead failed result }
     ensures told { failure_of out.old ≡ failure_in answer → failure_of out.new ≡ failure_in result }
 {
     out.flush()?;
@@ -210,13 +216,13 @@ pub(crate) fn stream<R: Read + Drop, W: Write + Drop>(
     alloc: Global,
     request: &Request,
     count: usize,
-    input: R,
+    pieces: &mut Pieces<R>,
     out: &mut Output<W>,
 ) -> Result<(), RunFault>
-    ensures ends { IfSome (R.remaining input) (λ bytes. StreamsAll request.now count bytes (W.contents out.old.writer) (W.contents out.new.writer) result) }
+    ensures ends { IfSome (R.remaining pieces.old.input) (λ bytes. StreamsAll request.now count bytes (W.contents out.old.writer) (W.contents out.new.writer) result) }
     ensures told { TellsWrite (failure_of out.old) (failure_of out.new) result }
+    ensures noted { ReportsRead (has_failed pieces.new) result }
 {
-    let mut pieces = Pieces::new(input);
-    let answer = show_input(alloc, request, count, &mut pieces, out);
+    let answer = show_input(alloc, request, count, pieces, out);
     show_to_end(answer, out)
 }

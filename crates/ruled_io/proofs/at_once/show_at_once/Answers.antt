@@ -1,15 +1,17 @@
 use Rattle.std.proofs.Common.{◌∙◌, List, ℕ, map}
 use Rattle.csv.specs.Records.{fields_of}
 use Rattle.ruled_table.specs.View.{table_fault, table_text}
+use Rattle.ruled_io.specs.Reading.{has_failed}
 use Rattle.ruled_io.specs.Requests.{rows_needed}
 use Rattle.ruled_io.specs.Runs.{AreRows, CausedAtOnce, LacksInput}
+use Rattle.ruled_io.proofs.AtOnce.{draws-unread, no-read, read-handed, writes-only}
 use Rattle.ruled_io.proofs.Causes.{after-drawn, draws-caused, early-handed, handed-known, if-so, lacks-caused, late, shown-drawn, unwritten-told}
 use Rattle.ruled_io.proofs.at_once.show_at_once.Goals as goal
 
 pub returns-in_err-rows-clause-cause : goal.returns-in_err-rows-clause-cause
 returns-in_err-rows-clause-cause g c =
     let request = c.args.request.now in
-    let given = g.R.Read.remaining c.args.input in
+    let given = g.R.Read.remaining c.args.pieces.now.input in
     let old = g.W.Write.contents c.args.out.now.writer in
     let found = c.in_err-rows.field-0.0 in
     handed-known given found c.from_residual.result (λ bytes fault. CausedAtOnce request bytes fault old old) c.from_residual.ensures.1
@@ -18,7 +20,7 @@ returns-in_err-rows-clause-cause g c =
 pub returns-in_err-show_rows-clause-cause : goal.returns-in_err-show_rows-clause-cause
 returns-in_err-show_rows-clause-cause g c =
     let request = c.args.request.now in
-    let given = g.R.Read.remaining c.args.input in
+    let given = g.R.Read.remaining c.args.pieces.now.input in
     let old = g.W.Write.contents c.args.out.now.writer in
     let new = g.W.Write.contents c.show_rows.new.out.writer in
     let rows : List (List (List ℕ)) = map fields_of c.in_ok-rows.rows.items in
@@ -36,7 +38,7 @@ returns-in_err-show_rows-clause-unwritten g c =
 pub returns-clause-shown : goal.returns-clause-shown
 returns-clause-shown g c =
     let request = c.args.request.now in
-    let given = g.R.Read.remaining c.args.input in
+    let given = g.R.Read.remaining c.args.pieces.now.input in
     let rows : List (List (List ℕ)) = map fields_of c.in_ok-rows.rows.items in
     shown-drawn given request rows (g.W.Write.contents c.args.out.now.writer) (g.W.Write.contents c.show_rows.new.out.writer) (g.W.Write.contents c.flush.new.self.writer) c.flush.result
     c.in_ok-rows.ensures.rows c.in_ok-show_rows.ensures.draws c.flush.ensures.kept
@@ -44,7 +46,7 @@ returns-clause-shown g c =
 pub returns-clause-cause : goal.returns-clause-cause
 returns-clause-cause g c =
     let request = c.args.request.now in
-    let given = g.R.Read.remaining c.args.input in
+    let given = g.R.Read.remaining c.args.pieces.now.input in
     let rows : List (List (List ℕ)) = map fields_of c.in_ok-rows.rows.items in
     after-drawn given request rows (g.W.Write.contents c.args.out.now.writer) (g.W.Write.contents c.show_rows.new.out.writer) (g.W.Write.contents c.flush.new.self.writer) c.flush.result
     c.in_ok-rows.ensures.rows c.in_ok-show_rows.ensures.draws c.flush.ensures.kept c.flush.ensures.failed
@@ -54,3 +56,12 @@ returns-in_err-rows-clause-told g c = λ none. none ∙ unwritten-told c.in_err-
 
 pub returns-clause-unwritten : goal.returns-clause-unwritten
 returns-clause-unwritten g c = late _ c.flush.result c.flush.ensures.failed
+
+pub returns-in_err-show_rows-clause-noted : goal.returns-in_err-show_rows-clause-noted
+returns-in_err-show_rows-clause-noted g c =
+    let failed = has_failed c.read_rows.new.pieces in
+    let found = c.in_err-show_rows.field-0.0 in
+    read-handed failed found c.from_residual-in_err-show_rows.result c.from_residual-in_err-show_rows.ensures.1 (draws-unread failed _ _ _ _ found c.in_err-show_rows.ensures.draws)
+
+pub returns-clause-noted : goal.returns-clause-noted
+returns-clause-noted g c = no-read (has_failed c.read_rows.new.pieces) c.flush.result (writes-only c.flush.result c.flush.ensures.failed)

@@ -3,6 +3,7 @@ use Rattle.std.specs.Result.{IsErrAnd}
 use Rattle.std.proofs.lemmas.Bool.{true≢false}
 use Rattle.ruled_io.specs.Faults.{is_failure, is_of_write}
 use Rattle.ruled_io.specs.declared.fault.RunFault.{RunFault}
+use Rattle.ruled_io.proofs.AtOnce.{write-handed}
 use Rattle.ruled_io.proofs.Tables.{write-fails}
 use Rattle.ruled_io.proofs.stream.show_to_end.Goals as goal
 
@@ -15,3 +16,6 @@ silent found (Err other) failed is fault same soft =
 
 pub returns-in_err-flush-clause-early : goal.returns-in_err-flush-clause-early
 returns-in_err-flush-clause-early g c = silent c.in_err-flush.field-0.0 c.from_residual.result (c.in_err-flush.ensures.failed c.in_err-flush.field-0.0 refl) c.from_residual.ensures.1
+
+pub returns-in_err-flush-clause-noted : goal.returns-in_err-flush-clause-noted
+returns-in_err-flush-clause-noted g c = λ failed noted. write-handed failed c.in_err-flush.field-0.0 c.from_residual.result (c.in_err-flush.ensures.failed c.in_err-flush.field-0.0 refl) c.from_residual.ensures.1

@@ -1,5 +1,4 @@
-use Rattle.std.proofs.Common.{List, ℕ, Option, subst, ap}
-use Rattle.std.specs.Prelude.{IfSome}
+use Rattle.ruled_io.specs.Reading.{has_failed}
 use Rattle.ruled_io.specs.Stream.{StreamsAll, streamed_count, streamed_rows, streamed_wrong}
 use Rattle.ruled_io.proofs.Inputs.{if-more}
 use Rattle.ruled_io.proofs.Shows.{ends-kept}
@@ -14,9 +13,11 @@ returns-clause-ends g c =
     let new = g.W.Write.contents c.show_to_end.new.out.writer in
     let answer = c.show_input-answer.result in
     let result = c.show_to_end.result in
-    let known = subst (λ (given : Option (List ℕ)). IfSome given (λ bytes. StreamsAll request count bytes old mid answer)) (ap g.R.Read.remaining c.new-pieces.ensures) c.show_input-answer.ensures.ends in
-    if-more {P = λ bytes. StreamsAll request count bytes old mid answer} {Q = λ bytes. StreamsAll request count bytes old new result} (g.R.Read.remaining c.args.input) known
+    if-more {P = λ bytes. StreamsAll request count bytes old mid answer} {Q = λ bytes. StreamsAll request count bytes old new result} (g.R.Read.remaining c.args.pieces.now.input) c.show_input-answer.ensures.ends
     (λ bytes is ends. ends-kept request.view (streamed_count request count bytes) (streamed_rows request count bytes) (streamed_wrong request count bytes) old mid new answer result ends c.show_to_end.ensures.kept c.show_to_end.ensures.fine c.show_to_end.ensures.early)
 
 pub returns-clause-told : goal.returns-clause-told
 returns-clause-told g c = λ none. c.show_to_end.ensures.told (c.show_input-answer.ensures.told none)
+
+pub returns-clause-noted : goal.returns-clause-noted
+returns-clause-noted g c = c.show_to_end.ensures.noted (has_failed c.show_input-answer.new.pieces) c.show_input-answer.ensures.noted

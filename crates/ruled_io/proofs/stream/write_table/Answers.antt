@@ -1,9 +1,12 @@
 use Rattle.std.proofs.Common.{[], List, map, Err, Result, refl, sym, ap, subst}
 use Rattle.std.proofs.KnownBytes.{Keeps-refl}
 use Rattle.csv.specs.Records.{Row, fields_of}
+use Rattle.ruled_io.specs.declared.fault.InputFault.TheVariants.{Memory}
 use Rattle.ruled_io.specs.declared.fault.RunFault.{RunFault}
-use Rattle.ruled_io.specs.declared.fault.RunFault.TheVariants.{Read}
+use Rattle.ruled_io.specs.declared.fault.RunFault.TheVariants.{Input}
 use Rattle.ruled_io.specs.declared.reader.Reading.{Reading}
+use Rattle.ruled_io.specs.Reading.{has_failed}
+use Rattle.ruled_io.proofs.AtOnce.{write-handed}
 use Rattle.ruled_io.proofs.Tables.{Runs, read-fails, runs-begin, runs-end, runs-fail, runs-on, runs-stop, runs-wrote, write-fails}
 use Rattle.ruled_io.proofs.stream.write_table.Goals as goal
 
@@ -82,6 +85,11 @@ loop-preserved g c = (
 
 pub returns-clause-ends : goal.returns-clause-ends
 returns-clause-ends g c = λ options plan format records all above stands has.
-    let r : Result (Unit {0}) RunFault = Err Read in
-    runs-fail options plan format records all above (map fields_of c.loop.rows.items) (g.R.Read.remaining c.loop.pieces.input) c.loop.reading c.loop.table (g.W.Write.contents c.args.out.now.writer) (g.W.Write.contents c.loop.out.writer) (g.W.Write.contents c.loop.out.writer) Read r
+    let r : Result (Unit {0}) RunFault = Err (Input Memory) in
+    runs-fail options plan format records all above (map fields_of c.loop.rows.items) (g.R.Read.remaining c.loop.pieces.input) c.loop.reading c.loop.table (g.W.Write.contents c.args.out.now.writer) (g.W.Write.contents c.loop.out.writer) (g.W.Write.contents c.loop.out.writer) (Input Memory) r
     refl refl (Keeps-refl (g.W.Write.contents c.loop.out.writer)) (c.loop.invariant.0 options plan format records all above stands has)
+
+pub returns-in_err-flush-in-More-clause-noted : goal.returns-in_err-flush-in-More-clause-noted
+returns-in_err-flush-in-More-clause-noted g c =
+    let found = c.in_err-flush-in-More.field-0.0 in
+    write-handed (has_failed c.loop.pieces) found c.from_residual-in_err-flush-in-More.result (c.in_err-flush-in-More.ensures.failed found refl) c.from_residual-in_err-flush-in-More.ensures.1
