@@ -15,7 +15,7 @@ pub struct Options {
     /// shown.
     pub columns: Vec<String>,
     /// The alignment of each shown column; one alone is for all. A column without one, or with
-    /// `None`, is right-aligned if each text below the header is a number or blank, else
+    /// `None`, is right-aligned if each text below the header is a number, blank or `⋮`, else
     /// left-aligned.
     pub sides: Vec<Option<AlignmentHorizontal>>,
     /// Row 0, which is in front of all rows of the input, with an empty name for each further column of their first one.
