@@ -4,11 +4,9 @@ use Rattle.std.specs.Prelude.{nat_le, fold}
 use Rattle.std.proofs.Math.Seq.{drop-cons}
 use Rattle.std.proofs.lemmas.List.{take_more}
 use Rattle.std.proofs.lemmas.List.Sums.{fold-append}
-use Rattle.ruled_csv.specs.Comments.{is_comment}
-use Rattle.ruled_csv.specs.FirstRow.{first_row_behind}
+use Rattle.ruled_csv.specs.Lines.{is_comment, line_behind}
+use Rattle.ruled_csv.specs.Kept.{first_row_behind, is_line_end}
 use Rattle.ruled_csv.specs.Inside.{lines_after, lines_start}
-use Rattle.ruled_csv.specs.Kept.{is_line_end}
-use Rattle.ruled_csv.specs.Lines.{line_behind}
 use Rattle.ruled_csv.specs.declared.dialect.RowRules.{RowRules}
 use Rattle.ruled_csv.specs.declared.lines.Lines.{Lines}
 

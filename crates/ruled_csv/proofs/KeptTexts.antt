@@ -10,12 +10,10 @@ use Rattle.csv.specs.declared.parser.Action.{Action}
 use Rattle.csv.specs.declared.parser.Action.TheVariants as act
 use Rattle.csv.specs.declared.parser.State.{State}
 use Rattle.csv.specs.declared.parser.State.TheVariants as st
-use Rattle.ruled_csv.specs.Comments.{is_comment}
-use Rattle.ruled_csv.specs.Config.{config_of}
+use Rattle.ruled_csv.specs.Lines.{is_comment, line_behind}
+use Rattle.ruled_csv.specs.Quotes.{config_of, state_behind}
 use Rattle.ruled_csv.specs.Inside.{Left, is_calm, leaves_out, read_of, left_after, left_from, left_of, left_start}
 use Rattle.ruled_csv.specs.Kept.{empty_line, end_of, is_line_end, is_left_out, kept_line, kept_text, lines_behind}
-use Rattle.ruled_csv.specs.Lines.{line_behind}
-use Rattle.ruled_csv.specs.Quotes.{state_behind}
 use Rattle.ruled_csv.specs.declared.dialect.Dialect.{Dialect}
 
 -- ---- a byte

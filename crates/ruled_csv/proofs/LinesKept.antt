@@ -87,8 +87,8 @@ lines-from : (dialect : Dialect) (left : Left) (lines : Lines) (text : List ℕ)
 lines-from dialect left lines [] counted = counted.line
 lines-from dialect left lines (byte ∷ text) counted = lines-from dialect (left_after dialect left byte) (lines_after lines byte) text (next dialect left byte lines counted)
 
-pub lines-count : LinesCount
-lines-count dialect text =
+pub lines_count : LinesCount
+lines_count dialect text =
     sym (line-counted (kept_text dialect text))
     ∙ ap (λ (xs : List ℕ). (lines_in xs).line) (kept-is dialect text)
     ∙ lines-from dialect left_start lines_start text (fresh left_start lines_start refl refl)

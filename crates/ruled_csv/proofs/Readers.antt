@@ -10,9 +10,8 @@ use Rattle.std.proofs.lemmas.Bool.{false≢true, true≢false}
 use Rattle.std.proofs.lemmas.List.{take-append-drop, take_more}
 use Rattle.ruled_csv.specs.Faults.{Tells, but_line, rows_fault, sound_rows, sound_rows_in}
 use Rattle.ruled_csv.specs.Inside.{Hand, Holds, Joins, Left, Scan, begins_out, empty_hand, fault_below, hand_below, hand_of, is_calm, last_row, leaves_out, left_of, lines_after, open_fault, row_ended, scan_after, scan_from, scan_of, scan_start, with_row}
-use Rattle.ruled_csv.specs.Comments.{is_comment}
+use Rattle.ruled_csv.specs.Lines.{is_comment, line_behind}
 use Rattle.ruled_csv.specs.Kept.{end_of, is_left_out, is_line_end, kept_text}
-use Rattle.ruled_csv.specs.Lines.{line_behind}
 use Rattle.ruled_csv.specs.Quotes.{state_behind}
 use Rattle.ruled_csv.specs.Reading.{AppendsRest, AppendsSome, Foretells, HasRead, OnFault}
 use Rattle.ruled_csv.specs.Rows.{ended_rows, rows_of}

@@ -32,9 +32,9 @@ calm-front (byte ∷ bytes) zero none = refl
 calm-front (byte ∷ bytes) (suc n) none =
     rw (calm-byte byte (none 0 (omega arith) (omega arith)), calm-front bytes n (λ k low high. none (suc k) (omega (arith, low)) (omega (arith, high)))) refl
 
-pub calm-found : (bytes : List ℕ) (found : Option ℕ) → IsFirstByte stops bytes found → list_all is_calm (take (unwrap_or found (length bytes)) bytes) ≡ true
-calm-found bytes None first = calm-front bytes (length bytes) (λ k low high. first k (omega arith) high)
-calm-found bytes (Some end) first = calm-front bytes end (λ k low high. first.0.before k (omega arith) low)
+pub calm_found : (bytes : List ℕ) (found : Option ℕ) → IsFirstByte stops bytes found → list_all is_calm (take (unwrap_or found (length bytes)) bytes) ≡ true
+calm_found bytes None first = calm-front bytes (length bytes) (λ k low high. first k (omega arith) high)
+calm_found bytes (Some end) first = calm-front bytes end (λ k low high. first.0.before k (omega arith) low)
 
 -- ---- a byte
 

@@ -10,8 +10,7 @@ use Rattle.csv.specs.Reading.{records, records_from, records_next, is_bom, strip
 use Rattle.csv.specs.declared.parser.State.{State}
 use Rattle.csv.specs.declared.parser.State.TheVariants as st
 use Rattle.ruled_csv.specs.Inside.{Scan, last_row, scan_after, scan_from, scan_of, scan_start, with_row}
-use Rattle.ruled_csv.specs.Quotes.{state_from}
-use Rattle.ruled_csv.specs.Config.{config_of}
+use Rattle.ruled_csv.specs.Quotes.{state_from, config_of}
 use Rattle.ruled_csv.specs.Rows.{ended_in}
 use Rattle.ruled_csv.specs.declared.dialect.Dialect.{Dialect}
 use Rattle.std.specs.Cmp.Lexicographic.{pointwise}

@@ -14,8 +14,7 @@ use Rattle.ruled_csv.specs.Inside as scan
 use Rattle.ruled_csv.specs.Inside.{Scan, fault_below, is_behind, last_row, row_ended, scan_after, scan_from, scan_of, scan_start, with_row}
 use Rattle.ruled_csv.specs.Kept.{kept_text}
 use Rattle.ruled_csv.specs.Lines.{line_behind}
-use Rattle.ruled_csv.specs.Quotes.{first_behind_quote, quote_fault}
-use Rattle.ruled_csv.specs.Config.{config_of}
+use Rattle.ruled_csv.specs.Quotes.{first_behind_quote, quote_fault, config_of}
 use Rattle.ruled_csv.specs.Rows.{columns_of, rows_of}
 use Rattle.ruled_csv.specs.declared.fault.RowsFault.{RowsFault}
 use Rattle.ruled_csv.specs.declared.fault.RowsFault.TheVariants.{BehindQuote, Encoding}

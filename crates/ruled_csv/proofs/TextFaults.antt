@@ -14,8 +14,7 @@ use Rattle.ruled_csv.specs.Faults.{first_fault, quoted_rows, row_fault, text_fau
 use Rattle.ruled_csv.specs.Inside as scan
 use Rattle.ruled_csv.specs.Inside.{Hand, Scan, behind_fault, fault_below, is_bare, is_behind, last_row, lines_after, lines_start, row_ended, scan_after, scan_from, scan_of, scan_start, with_row}
 use Rattle.ruled_csv.specs.Lines.{ends_line, line_behind}
-use Rattle.ruled_csv.specs.Quotes.{first_behind_quote, is_behind_quote, is_closing, is_quoted, open_fault, quote_at, quote_fault, state_behind}
-use Rattle.ruled_csv.specs.Config.{config_of}
+use Rattle.ruled_csv.specs.Quotes.{first_behind_quote, is_behind_quote, is_closing, is_quoted, open_fault, quote_at, quote_fault, state_behind, config_of}
 use Rattle.ruled_csv.specs.Rows.{columns_of, ended_in}
 use Rattle.ruled_csv.specs.declared.fault.RowsFault.{RowsFault}
 use Rattle.ruled_csv.specs.declared.fault.RowsFault.TheVariants.{OpenQuote, BehindQuote}

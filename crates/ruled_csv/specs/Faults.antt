@@ -1,12 +1,11 @@
 -- Why rows can't be read.
-use Rattle.std.specs.Prelude.{◌≡◌, ◌≢◌, ℕ, ◌+◌, ◌-◌, ◌^◌, min, ◌==◌, ◌||◌, not, Bool, List, [], ◌∷◌, length, take, Option, Some, None, Result, Ok, Err, is_none, if◌then◌else◌}
+use Rattle.std.specs.Prelude.{◌≡◌, ◌≢◌, ℕ, ◌+◌, ◌-◌, ◌^◌, min, ◌==◌, ◌||◌, not, Bool, List, [], ◌∷◌, length, take, Option, Some, None, Result, Ok, Err, is_none, if◌then◌else◌, ◌++◌, codes, decimal}
 use Rattle.std.specs.List.{list_all, take_while}
 use Rattle.std.specs.Option.{option_or}
 use Rattle.std.specs.Str.{is_utf8}
 use Rattle.csv.specs.Reading.{records}
 use Rattle.ruled_csv.specs.Kept.{kept_text}
-use Rattle.ruled_csv.specs.Quotes.{first_behind_quote, quote_fault}
-use Rattle.ruled_csv.specs.Config.{config_of}
+use Rattle.ruled_csv.specs.Quotes.{first_behind_quote, quote_fault, config_of}
 use Rattle.ruled_csv.specs.Rows.{columns_of, ended_in}
 use Rattle.ruled_csv.specs.declared.fault.RowsFault.{RowsFault}
 use Rattle.ruled_csv.specs.declared.fault.RowsFault.TheVariants.{OpenQuote, BehindQuote, Length, Encoding, Memory}
@@ -76,3 +75,20 @@ rows_fault dialect bytes = text_fault dialect (kept_text dialect bytes)
 -- the rows of bytes above the first bad one: all, where nothing is wrong
 unfoldable pub sound_rows : Dialect → List ℕ → List (List (List ℕ))
 sound_rows dialect bytes = sound_rows_in dialect (kept_text dialect bytes)
+
+-- ---- the words for them
+
+-- what is said of a line
+abbrev pub of_line : ℕ → List ℕ → List ℕ
+of_line line words = codes "line " ++ (decimal line ++ (codes ": " ++ words))
+
+abbrev pub fields_word : ℕ → List ℕ
+fields_word fields = if fields == 1 then codes "field" else codes "fields"
+
+abbrev pub rows_fault_text : RowsFault → List ℕ
+rows_fault_text (OpenQuote line) = of_line line (codes "a quote isn't closed")
+rows_fault_text (BehindQuote line) = of_line line (codes "text after a closing quote")
+rows_fault_text (Length row line fields columns) =
+    of_line line (decimal fields ++ (codes " " ++ (fields_word fields ++ (codes ", but row 0 has " ++ (decimal columns ++ codes "; see --ragged")))))
+rows_fault_text (Encoding row line) = of_line line (codes "not UTF-8")
+rows_fault_text Memory = codes "out of memory"

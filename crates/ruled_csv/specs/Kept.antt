@@ -1,11 +1,11 @@
 -- What is read of a text. A line that is left out is read as an empty one, so that lines count as in an editor.
-use Rattle.std.specs.Prelude.{◌≡◌, ℕ, ◌==◌, ◌&&◌, ◌||◌, not, nat_le, Bool, true, List, [], ◌∷◌, ◌++◌, fold, if◌then◌else◌}
+use Rattle.std.specs.Prelude.{◌≡◌, ℕ, ◌==◌, ◌&&◌, ◌||◌, not, nat_le, Bool, true, List, [], ◌∷◌, ◌++◌, fold, if◌then◌else◌, false}
 use Rattle.std.specs.List.{flat_map}
 use Rattle.csv.specs.Machine.{ends_at_end}
-use Rattle.ruled_csv.specs.Comments.{is_comment}
-use Rattle.ruled_csv.specs.Lines.{line_behind}
+use Rattle.ruled_csv.specs.Lines.{is_comment, line_behind}
 use Rattle.ruled_csv.specs.Quotes.{state_behind}
 use Rattle.ruled_csv.specs.declared.dialect.Dialect.{Dialect}
+use Rattle.ruled_csv.specs.declared.dialect.RowRules.{RowRules}
 
 -- a byte that ends a line; between a carriage return and a line feed is an empty one
 abbrev pub is_line_end : ℕ → Bool
@@ -48,3 +48,17 @@ kept_text dialect text = fold (λ above line. above ++ kept_line dialect above l
 -- the lines of a text count in what is read of it
 abbrev pub LinesCount : Type 0
 LinesCount = (dialect : Dialect) (text : List ℕ) → line_behind (kept_text dialect text) ≡ line_behind text
+
+-- ---- what comes before the first row
+
+module _ (rules : RowRules) where
+  -- a text behind these bytes, which may be in a line that is left out, from the first line on that is neither empty nor left out
+  abbrev pub first_row_behind : List ℕ → Bool → List ℕ → List ℕ
+  first_row_behind above is_out [] = []
+  first_row_behind above is_out (byte ∷ text) =
+      if is_line_end byte then first_row_behind (above ++ byte ∷ []) false text
+      else if is_out || (nat_le (line_behind above) rules.skipped || is_comment rules.comment (byte ∷ [])) then first_row_behind (above ++ byte ∷ []) true text
+      else byte ∷ text
+
+  abbrev pub from_first_row : List ℕ → List ℕ
+  from_first_row text = first_row_behind [] false text

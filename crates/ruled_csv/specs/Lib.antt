@@ -1,6 +1,3 @@
-pub mod Comments
-pub mod Config
-pub mod FirstRow
 pub mod Kept
 pub mod Rows
 pub mod Lines
@@ -8,4 +5,3 @@ pub mod Quotes
 pub mod Faults
 pub mod Reading
 pub mod Inside
-pub mod Words

@@ -7,10 +7,15 @@ use Rattle.csv.specs.Machine.{step}
 use Rattle.csv.specs.declared.parser.State.{State}
 use Rattle.csv.specs.declared.parser.State.TheVariants as st
 use Rattle.ruled_csv.specs.Lines.{line_behind}
-use Rattle.ruled_csv.specs.Config.{config_of}
 use Rattle.ruled_csv.specs.declared.fault.RowsFault.{RowsFault}
 use Rattle.ruled_csv.specs.declared.fault.RowsFault.TheVariants.{OpenQuote, BehindQuote}
 use Rattle.ruled_csv.specs.declared.dialect.Dialect.{Dialect}
+use Rattle.csv.specs.declared.parser.Config.{Config}
+use Rattle.csv.specs.Reading.{default_config}
+
+-- the fields are parted by this byte, and quoted as in CSV
+abbrev pub config_of : Dialect → Config
+config_of dialect = record default_config { delimiter = dialect.delimiter }
 
 -- where the reading of `csv` stands behind these bytes, from a state on
 abbrev pub state_from : Dialect → State → List ℕ → State

@@ -1,7 +1,7 @@
 -- The rows that bytes of separated values hold.
 use Rattle.std.specs.Prelude.{ℕ, ◌-◌, List, [], ◌∷◌, ◌++◌, length, take}
 use Rattle.csv.specs.Reading.{records}
-use Rattle.ruled_csv.specs.Config.{config_of}
+use Rattle.ruled_csv.specs.Quotes.{config_of}
 use Rattle.ruled_csv.specs.Kept.{kept_text}
 use Rattle.ruled_csv.specs.declared.dialect.Dialect.{Dialect}
 

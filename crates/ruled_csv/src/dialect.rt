@@ -1,7 +1,7 @@
 //! How rows are written.
 
 ghost use Rattle.std.specs.Prelude.{◌≡◌, ◌∷◌, [], ◌||◌, nat_le};
-ghost use Rattle.ruled_csv.specs.Comments.{is_comment};
+ghost use Rattle.ruled_csv.specs.Lines.{is_comment};
 
 /// How rows are written.
 #[derive(Clone, Copy)]

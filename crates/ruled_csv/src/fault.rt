@@ -1,7 +1,7 @@
 //! Why rows can't be read.
 
 ghost use Rattle.std.specs.Prelude.{◌≡◌, Some};
-ghost use Rattle.ruled_csv.specs.Words as spec;
+ghost use Rattle.ruled_csv.specs.Faults as spec;
 ghost use Rattle.ruled_csv.specs.declared.fault.RowsFault.TheVariants.{Memory};
 
 use std::alloc::{AllocError, AllocFailed};

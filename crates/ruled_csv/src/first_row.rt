@@ -1,8 +1,9 @@
 //! What comes before the first row of a text.
 
 ghost use Rattle.std.specs.Prelude.{◌≡◌, ◌≤◌, ◌∷◌, ◌||◌, [], drop, length, nat_le};
-ghost use Rattle.ruled_csv.specs.Comments.{is_comment};
-ghost use Rattle.ruled_csv.specs.FirstRow as spec;
+ghost use Rattle.csv.specs.Reading.{strip_bom};
+ghost use Rattle.ruled_csv.specs.Lines.{is_comment};
+ghost use Rattle.ruled_csv.specs.Kept as spec;
 
 use crate::dialect::RowRules;
 use crate::lines::{Lines, ends_line};
@@ -38,4 +39,15 @@ pub fn from_first_row(rules: RowRules, text: &[u8]) -> &[u8]
     ensures { result.now ≡ spec.from_first_row rules text.now }
 {
     &text[first_row(rules, text)..]
+}
+
+/// The bytes without a byte order mark at the front.
+#[tactic(auto, using(crate::proofs::Scans::no_mark, crate::proofs::Scans::with_mark))]
+pub fn without_mark(bytes: &[u8]) -> &[u8]
+    ensures { result.now ≡ strip_bom bytes.now }
+{
+    match bytes.strip_prefix(&[0xef, 0xbb, 0xbf]) {
+        Some(rest) => rest,
+        None => bytes,
+    }
 }

@@ -4,17 +4,14 @@
 mod dialect;
 mod fault;
 mod first_row;
-mod laws;
 mod lines;
-mod quotes;
 mod reader;
 mod records;
 mod scanner;
 
 pub use crate::dialect::{Dialect, RowRules};
 pub use crate::fault::RowsFault;
-pub use crate::first_row::from_first_row;
-pub use crate::laws::lines_left_out_count;
-pub use crate::quotes::without_mark;
+pub use crate::first_row::{from_first_row, without_mark};
+pub use crate::lines::lines_left_out_count;
 pub use crate::reader::RowReader;
 pub use crate::records::read_rows;

@@ -2,7 +2,7 @@
 
 ghost use Rattle.std.specs.Prelude.{◌≡◌};
 ghost use Rattle.ruled_csv.specs.Inside.{calm_lines, lines_after, lines_below, lines_start};
-ghost use Rattle.ruled_csv.specs.Kept.{is_line_end};
+ghost use Rattle.ruled_csv.specs.Kept.{LinesCount, is_line_end};
 
 /// Whether a byte ends a line, with or without the next one.
 pub(crate) fn ends_line(byte: u8) -> bool
@@ -76,3 +76,11 @@ impl Lines {
         }
     }
 }
+
+/// A line that is left out counts as a line: what is read of a text has as many lines as the text.
+/// So the line that a fault names is that of the text. The function does nothing: its contract is
+/// the law.
+#[tactic(auto, using(crate::proofs::LinesKept::lines_count))]
+pub fn lines_left_out_count()
+    ensures { LinesCount }
+{}

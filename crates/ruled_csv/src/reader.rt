@@ -23,6 +23,7 @@ fn has_length(dialect: Dialect, columns: usize, fields: usize) -> bool
 }
 
 // The text of a row that begins on this line, or what is wrong with it.
+#[tactic(auto, using(crate::proofs::SoundRows::row_right, crate::proofs::SoundRows::row_wrong))]
 fn text_of(
     fields: ByteRecord,
     row: usize,

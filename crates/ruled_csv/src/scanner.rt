@@ -9,8 +9,7 @@ ghost use Rattle.ruled_csv.specs.declared.dialect.Dialect.{Dialect};
 ghost use Rattle.ruled_csv.specs.Faults.{Tells};
 ghost use Rattle.ruled_csv.specs.Inside.{Joins, begins_out, behind_fault, empty_hand, hand_after, hand_below, hand_cut, hand_of, is_act_behind, is_bare, is_behind, is_calm, is_open, last_row, open_fault};
 ghost use Rattle.ruled_csv.specs.Inside.{opens, row_ended, state_behind, state_of, step_of};
-ghost use Rattle.ruled_csv.specs.Quotes.{is_closing, is_plain, is_quoted};
-ghost use Rattle.ruled_csv.specs.Config.{config_of};
+ghost use Rattle.ruled_csv.specs.Quotes.{is_closing, is_plain, is_quoted, config_of};
 
 use crate::dialect::Dialect;
 use crate::fault::RowsFault;
@@ -128,6 +127,7 @@ fn begins_run(bytes: &[u8]) -> bool {
 }
 
 // How many bytes come before the first quote or end of a line.
+#[tactic(auto, using(crate::proofs::Runs::calm_found))]
 fn run_of(bytes: &[u8]) -> usize
     ensures within { result ≤ length bytes.now }
     ensures calm { IsTrue (list_all is_calm (take result bytes.now)) }

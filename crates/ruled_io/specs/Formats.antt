@@ -5,7 +5,7 @@ use Rattle.std.specs.List.{count_by, starts_with}
 use Rattle.std.specs.Option.{option_map_or}
 use Rattle.csv.specs.Reading.{strip_bom}
 use Rattle.json.specs.Word.{is_space}
-use Rattle.ruled_csv.specs.FirstRow.{from_first_row}
+use Rattle.ruled_csv.specs.Kept.{from_first_row}
 use Rattle.ruled_csv.specs.declared.dialect.RowRules.{RowRules}
 use Rattle.ruled_json.specs.Faults.{is_value}
 use Rattle.ruled_io.specs.declared.formats.Format.{Format}

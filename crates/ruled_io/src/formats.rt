@@ -1,7 +1,7 @@
 //! The formats of rows.
 
 ghost use Rattle.std.specs.Prelude.{◌≡◌, ◌≤◌, ◌<◌, ◌++◌, ℕ, Bool, List, length, nat_eq, position, true, IfOk, IfSome};
-ghost use Rattle.ruled_csv.specs.FirstRow.{from_first_row};
+ghost use Rattle.ruled_csv.specs.Kept.{from_first_row};
 ghost use Rattle.ruled_io.specs.Reading.{ShowsInput, ShowsText};
 ghost use Rattle.ruled_io.specs.declared.formats.Format.TheVariants.{Separated};
 ghost use Rattle.std.specs.List.{list_any, starts_with};

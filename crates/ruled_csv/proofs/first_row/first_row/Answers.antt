@@ -1,7 +1,7 @@
 use Rattle.std.proofs.Common.{◌≡◌, ◌∙◌, ◌||◌, ◌+◌, ℕ, Bool, [], ◌∷◌, get_or, drop, sym, ap, subst, take}
 use Rattle.std.specs.Prelude.{nat_le}
-use Rattle.ruled_csv.specs.Comments.{is_comment}
-use Rattle.ruled_csv.specs.FirstRow.{first_row_behind, from_first_row}
+use Rattle.ruled_csv.specs.Lines.{is_comment}
+use Rattle.ruled_csv.specs.Kept.{first_row_behind, from_first_row}
 use Rattle.ruled_csv.specs.declared.lines.Lines.{Lines}
 use Rattle.ruled_csv.proofs.FirstRows.{first-ends, first-leaves, first-stops, lines-more}
 use Rattle.ruled_csv.proofs.TextFaults.{line-counted}

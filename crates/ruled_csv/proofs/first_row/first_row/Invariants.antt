@@ -1,6 +1,6 @@
 use Rattle.std.proofs.Common.{◌≡◌, drop, take}
 use Rattle.std.specs.Prelude.{fold}
-use Rattle.ruled_csv.specs.FirstRow.{first_row_behind, from_first_row}
+use Rattle.ruled_csv.specs.Kept.{first_row_behind, from_first_row}
 use Rattle.ruled_csv.specs.Inside.{lines_after, lines_start}
 use Rattle.ruled_csv.proofs.first_row.first_row.Given as goal
 

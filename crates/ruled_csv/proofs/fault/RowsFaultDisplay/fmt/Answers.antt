@@ -1,7 +1,7 @@
 use Rattle.std.proofs.Common.{ℕ, List, ◌++◌, sym, subst}
 use Rattle.std.specs.Prelude.{codes, decimal}
 use Rattle.std.specs.Fmt.{HasWritten}
-use Rattle.ruled_csv.specs.Words.{of_line, rows_fault_text}
+use Rattle.ruled_csv.specs.Faults.{of_line, rows_fault_text}
 use Rattle.ruled_csv.specs.declared.fault.RowsFault.{RowsFault}
 use Rattle.ruled_csv.proofs.fault.RowsFaultDisplay.fmt.Goals as goal
 

@@ -1,7 +1,7 @@
 use Rattle.std.proofs.Common.{◌∙◌, sym, ap}
 use Rattle.csv.specs.Machine.{step}
 use Rattle.ruled_csv.specs.Inside.{state_of}
-use Rattle.ruled_csv.specs.Config.{config_of}
+use Rattle.ruled_csv.specs.Quotes.{config_of}
 use Rattle.ruled_csv.specs.declared.scanner.Standing.{Standing}
 use Rattle.ruled_csv.proofs.scanner.Standing.step.Goals as goal
 
