@@ -192,6 +192,7 @@ impl<
         ensures untouched { ¬ (HeldFits (streaming D.width D.height C.color self.entry)) → buf.new ≡ buf.old }
         ensures first { (streaming D.width D.height C.color self.entry).held ≡ None → buf.new ≡ buf.old }
         ensures told { (misfit : Misfit) → result ≢ Err (StreamFault.Misfit misfit) }
+        ensures goes_on { result ≢ Err StreamFault.Open }
     {
         let cells = collect_cells(alloc, row)?;
         self.push(cells, buf)
