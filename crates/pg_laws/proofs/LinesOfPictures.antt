@@ -12,7 +12,7 @@ use Rattle.pg_picture.specs.Joined.{joined}
 use Rattle.pg_picture.specs.Fits.{body_height}
 use Rattle.pg_picture.specs.Picture.{top_lines, bottom_lines, body_lines, picture_lines, compact_picture, picture}
 use Rattle.pg_picture.proofs.Pictures.{length-body_lines, length-top, picture-none, picture-some, flat_map-same, hints_are_idle}
-use Rattle.pg_picture.proofs.MarksOfRectangles.{length-table_body}
+use Rattle.pg_picture.proofs.MarksOfRectangles.{rect_height-of_rect, length-table_body}
 use Rattle.pg_laws.specs.Laws.{NothingToDraw, NothingCompactToDraw, LinesAreJoined, CompactLinesAreJoined, IsOneLine, LinesAreCut, CompactLinesAreCut, LinesAreCounted, PlainRows, PlainSeparators, HasNoMargins, BodiesStandAlone}
 use Rattle.std.proofs.lemmas.Bool.{cases_Bool, false≢true}
 use Rattle.pg_layout.specs.declared.sides.Indent.{Indent}
@@ -35,7 +35,7 @@ use Rattle.pg_iter.specs.declared.grid.IterGrid.{IterGrid}
 use Rattle.pg_peekable.specs.declared.grid.PeekableGrid.{PeekableGrid}
 use Rattle.pg_peekable.specs.Grids.{printed_table}
 use Rattle.pg_iter.specs.IterGrids.{streamed}
-use Rattle.pg_laws.specs.GridLaws.{KnowsMargins, HaveSameParts, TextsAreOne}
+use Rattle.pg_laws.specs.Laws.{KnowsMargins, HaveSameParts, TextsAreOne}
 
 -- ---- the picture as its lines: how they are joined, and how many there are
 
@@ -165,7 +165,10 @@ module _ {R Cell Columns Rows D C Color : Type 0} (records : records.Ghosts R Ce
   same-table : (streaming : IterGrid R D (Bor Config) C) (looking : PeekableGrid R (Bor Config) D C) → HaveSameParts streaming looking → streamed records dimension colors streaming ≡ printed_table records dimension colors looking
   same-table streaming looking same = rw (same.records, same.config, same.dimension, same.colors) refl
 
-  pub texts-are-one : TextsAreOne records dimension colors
-  texts-are-one streaming looking same knows =
+  pub texts_are_one : TextsAreOne records dimension colors
+  texts_are_one streaming looking same knows =
       hint-idle (streamed records dimension colors streaming) (records.hint streaming.records) knows
       ∙ ap (λ t. picture Known t) (same-table streaming looking same)
+
+-- heights and lines of a body
+pub ruleset heights = (rect_height-of_rect, length-table_body)

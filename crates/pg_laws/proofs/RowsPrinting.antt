@@ -16,8 +16,7 @@ use Rattle.pg_layout.specs.Looks.{ascii}
 use Rattle.pg_config.specs.Config.{filled}
 use Rattle.pg_picture.specs.Joined.{joined}
 use Rattle.pg_picture.specs.Picture.{compact_picture}
-use Rattle.pg_laws.specs.Samples.{grid22, one, color_r, color_b, color_g, spaced}
-use Rattle.pg_laws.specs.CompactSamples.{no_color, plain_compact, compact_table}
+use Rattle.pg_laws.specs.Samples.{grid22, one, color_r, color_b, color_g, spaced, no_color, plain_compact, compact_table}
 
 -- ---- tables printed row by row, each worked out by hand
 

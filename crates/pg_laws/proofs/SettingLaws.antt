@@ -16,7 +16,7 @@ use Rattle.pg_config.proofs.Lookups.{or_swap, value_at-with_some, any-with_some,
 use Rattle.pg_laws.specs.SettingLaws.{others, is_held, is_held_before, AnswersSpan, AColumnSpanIsAnswered, ARowSpanIsAnswered, border_horizontal, border_vertical, border_crossing, border_row, border_column, ABorderHasItsParts, ABorderOverridesItsPlaces, ABorderIsAnswered, ABorderOfColorsIsAnswered, RowLineHorizontals, RowLineCrossings, RowLineVerticals, AStartIsAnswered, AnEndIsAnswered, AnOffsetMarksItsPlace, sets_padding_color, sets_justification, sets_offset, sets_border_color, WhatWasSetIsTold, NothingWasSetAtFirst}
 use Rattle.std.proofs.lemmas.List.Sums.{AllPass-from_list_all, list_all-from_AllPass}
 use Rattle.pg_picture.specs.Fits.{are_apart, all_apart, span_fits, spans_fit}
-use Rattle.pg_laws.specs.FitLaws.{ShareNoPlace, SpansFitByPlaces}
+use Rattle.pg_laws.specs.Laws.{ShareNoPlace, SpansFitByPlaces}
 use Rattle.std.specs.Option.{option_or}
 use Rattle.pg_layout.specs.declared.borders.Border.{Border}
 use Rattle.pg_layout.specs.Borders.{horizontal_glyph, vertical_glyph, crossing_glyph}
@@ -31,6 +31,7 @@ use Rattle.pg_layout.specs.declared.position.Entity.TheVariants.{Global, Row, Co
 use Rattle.pg_layout.specs.declared.sides.Offset.{Offset}
 use Rattle.pg_config.specs.Settings.{Settings, has_some, next_number, with_setting, is_set}
 use Rattle.pg_laws.specs.Setters.{Setter, set_padding_color, set_justification, set_justification_color, set_borders_color, set_border_color, set_horizontal_char, set_horizontal_color, set_vertical_char, set_vertical_color, after}
+use Rattle.pg_config.proofs.SettingsLaw.{setting_of-with_setting}
 
 -- ---- what sizes and owners there are after the span of a cell is set, place by place
 
@@ -317,9 +318,9 @@ module _ (rows columns : ℕ) where
   tests_of : (ss : List Span) → All HasSize ss → All (EndsInside rows columns) ss → list_all (span_fits rows columns) ss ≡ true
   tests_of ss a b = list_all-from_AllPass (span_fits rows columns) ss (λ k d l. test (slice_index_or ss k d) (a k d l) (b k d l))
 
-pub spans_fit-by_places : SpansFitByPlaces
+pub spans_fit_by_places : SpansFitByPlaces
 unfolding spans_fit
-spans_fit-by_places spans rows columns = (
+spans_fit_by_places spans rows columns = (
   λ h. let p = and_parts (list_all (span_fits rows columns) spans) (all_apart spans) h in record { sizes = sizes_of rows columns spans p.0; inside = ends_of rows columns spans p.0; apart = places_from_test spans p.1 },
   λ f. and_from (list_all (span_fits rows columns) spans) (all_apart spans) (tests_of rows columns spans f.sizes f.inside) (test_from_places spans f.sizes f.apart),
 )
@@ -697,3 +698,6 @@ ever_set config setters = record {
 pub nothing_at_first : NothingWasSetAtFirst
 unfolding default_config has_padding_color has_justification has_offset_chars is_set has_offsets
 nothing_at_first = record { padding_color = refl; justification = refl; offset_chars = refl; border_colors = refl }
+
+-- what a setter leaves
+pub ruleset latest = (setting_of-with_setting)

@@ -1,6 +1,6 @@
 -- Laws of the picture, in words of their own.
-use Rattle.std.specs.Prelude.{◌≡◌, ℕ, ◌+◌, ◌-◌, ◌<◌, ◌≤◌, ◌⊎◌, ◌==◌, true, false, List, [], ◌∷◌, ◌++◌, map, flat_map, length, Option, Some, None, IsSome, IfSome, encode_utf8, All}
-use Rattle.std.specs.List.{AllZip, range_with_len, join_with_byte, Contains}
+use Rattle.std.specs.Prelude.{◌≡◌, ℕ, ◌+◌, ◌-◌, ◌<◌, ◌≤◌, ◌⊎◌, ◌==◌, true, false, List, [], ◌∷◌, ◌++◌, map, flat_map, length, Option, Some, None, IsSome, IfSome, encode_utf8, All, ◌↔◌}
+use Rattle.std.specs.List.{AllZip, range_with_len, join_with_byte, Contains, AllPairs}
 use Rattle.std.specs.Option.{option_to_list}
 use Rattle.pg_layout.specs.declared.position.Position.{Position}
 use Rattle.pg_layout.specs.declared.sides.Sides.{Sides}
@@ -12,13 +12,12 @@ use Rattle.pg_layout.specs.Borders.{no_borders}
 use Rattle.pg_config.specs.CompactConfig.{CompactSettings, empty_color}
 use Rattle.pg_config.specs.Overrides.{no_overrides}
 use Rattle.pg_config.specs.Settings.{Settings, no_settings}
-use Rattle.pg_config.specs.Config.{filled, get_horizontal, get_padding, get_formatting}
+use Rattle.pg_config.specs.Config.{filled, get_horizontal, get_padding, get_formatting, Config}
 use Rattle.pg_config.specs.Offsets.{no_offsets}
-use Rattle.pg_config.specs.Spans.{rect_rows, rect_columns, has_row_spans}
+use Rattle.pg_config.specs.Spans.{rect_rows, rect_columns, has_row_spans, Span, in_span}
 use Rattle.pg_picture.specs.Marks.{Mark, sep, line}
 use Rattle.pg_picture.specs.Pieces.{Piece, run, words, in_color, repeated, written, pieces_width, style_at, shown, block_line, Item, glyph, spaces, block, separator_text}
-use Rattle.pg_picture.specs.Table.{Table, Hint, Known, Unknown, rect_marks, rect_width, rect_height, block_at, vertical, row_part, line_of_row, crossing_at, horizontal_items}
-use Rattle.pg_picture.specs.Table.{column_items, separator_part, separator_items, mark_text, body_line, table_body}
+use Rattle.pg_picture.specs.Table.{Table, Hint, Known, Unknown, rect_marks, rect_width, rect_height, block_at, vertical, row_part, line_of_row, crossing_at, horizontal_items, column_items, separator_part, separator_items, mark_text, body_line, table_body}
 use Rattle.pg_picture.specs.Rectangles.{IsOwner}
 use Rattle.pg_picture.specs.CompactLines.{CompactTable, Part, parts_after, compact_lines}
 use Rattle.pg_picture.specs.Fits.{body_height, spans_fit, totals_fit, cell_fits, owner_fits, misfit_of}
@@ -28,6 +27,15 @@ use Rattle.pg_picture.specs.Plain.{cell_line, IsFromStart}
 use Rattle.pg_picture.specs.declared.fits.Misfit.{Misfit}
 use Rattle.pg_picture.specs.declared.fits.Misfit.TheVariants.{Spans, Totals, Room}
 use Rattle.pg_picture.specs.Picture.{picture_lines, picture, compact_picture}
+use Rattle.pg_picture.specs.Sizes.{height_of_rect}
+use Rattle.std.specs.Borrow.{Bor}
+use Rattle.pg_layout.specs.declared.records.Records as records
+use Rattle.pg_layout.specs.declared.dimension.Dimension as dimension
+use Rattle.pg_layout.specs.declared.colors.Colors as colors
+use Rattle.pg_iter.specs.declared.grid.IterGrid.{IterGrid}
+use Rattle.pg_peekable.specs.declared.grid.PeekableGrid.{PeekableGrid}
+use Rattle.pg_peekable.specs.Grids.{printed_table, peekable_parts}
+use Rattle.pg_iter.specs.IterGrids.{iter_parts, streamed, told}
 
 -- ---- lines
 
@@ -319,3 +327,53 @@ MisfitsAreFirst = (t : Table) → 0 < t.rows → 0 < t.columns → Tells t (misf
 
 abbrev pub FittingTablesHaveNone : Type 0
 FittingTablesHaveNone = (t : Table) → TableFits t → misfit_of t ≡ None
+
+-- ---- the conditions
+
+abbrev pub ShareNoPlace : Span → Span → Type 0
+ShareNoPlace s t = (r c : ℕ) → in_span r c s ≡ true → in_span r c t ≡ true → ⊥
+
+-- every rectangle has a size and ends inside the table, and no place lies in two of them
+pub record SpansFit (spans : List Span) (rows columns : ℕ) : Type 0 where
+  pub sizes : All (λ s. (0 < s.1.rows) × (0 < s.1.columns)) spans
+  pub inside : All (λ s. (s.0.row + s.1.rows ≤ rows) × (s.0.col + s.1.columns ≤ columns)) spans
+  pub apart : AllPairs ShareNoPlace spans
+
+-- The test of spans says what spans that fit are, place by place.
+abbrev pub SpansFitByPlaces : Type 0
+SpansFitByPlaces = (spans : List Span) (rows columns : ℕ) → (spans_fit spans rows columns ≡ true) ↔ SpansFit spans rows columns
+
+-- A rectangle's height is the same in each table that it ends in.
+abbrev pub HeightsStay : Type 0
+HeightsStay = (t : Table) (p : Position) → 0 < rect_rows t.config.spans p → p.row + rect_rows t.config.spans p ≤ t.rows → rect_height t p ≡ height_of_rect t.config t.height p
+
+-- The body has as many lines as its height says.
+abbrev pub BodyHasItsHeight : Type 0
+BodyHasItsHeight = (t : Table) → length (table_body t) ≡ body_height t
+
+-- Colours don't matter to the conditions.
+abbrev pub ColorsDontMatter : Type 0
+ColorsDontMatter = (t : Table) (color : Position → Option Color) → misfit_of (record t { color = color }) ≡ misfit_of t
+
+-- A table that fits has spans and totals that fit, and room in each of its cells.
+abbrev pub NoMisfitMeansFits : Type 0
+NoMisfitMeansFits = (t : Table) → misfit_of t ≡ None → 0 < t.rows → 0 < t.columns → TableFits t
+
+-- ---- grids
+
+-- the number of rows is given, or no side margin has an offset that counts from the end
+abbrev pub KnowsMargins : Table → Option ℕ → Type 0
+KnowsMargins t hint = IsSome hint ⊎ (IsFromStart t.config.margin_offset.left × IsFromStart t.config.margin_offset.right)
+
+-- a streaming and a looked-up grid are made of the same parts
+pub record HaveSameParts {R D C : Type 0} (streaming : IterGrid R D (Bor Config) C) (looking : PeekableGrid R (Bor Config) D C) : Type 0 where
+  pub records : (iter_parts streaming).0 ≡ (peekable_parts looking).0
+  pub config : (iter_parts streaming).1.now ≡ (peekable_parts looking).1.now
+  pub dimension : (iter_parts streaming).2 ≡ (peekable_parts looking).2
+  pub colors : (iter_parts streaming).3 ≡ (peekable_parts looking).3
+
+-- Of the same parts the streamed and the looked-up text are one, where the number of rows is given; and where it isn't, if no side margin has an offset that counts from the end.
+abbrev pub TextsAreOne : {R Cell Columns Rows D C Color : Type 0} → records.Ghosts R Cell Columns Rows → dimension.Ghosts D → colors.Ghosts C Color → Type 0
+TextsAreOne {R} {Cell} {Columns} {Rows} {D} {C} records dimension colors = (streaming : IterGrid R D (Bor Config) C) (looking : PeekableGrid R (Bor Config) D C) → HaveSameParts streaming looking
+    → KnowsMargins (streamed records dimension colors streaming) (records.hint (iter_parts streaming).0)
+    → picture (told records streaming) (streamed records dimension colors streaming) ≡ picture Known (printed_table records dimension colors looking)

@@ -1,5 +1,5 @@
 -- Tables for worked examples, beside those of pg_picture.
-use Rattle.std.specs.Prelude.{ℕ, List, [], ◌∷◌, map, flat_map, Option, Some, codes, encode_utf8, ◌+◌}
+use Rattle.std.specs.Prelude.{ℕ, List, [], ◌∷◌, map, flat_map, Option, Some, codes, encode_utf8, ◌+◌, slice_index_or, None}
 use Rattle.std.specs.List.{range_with_len}
 use Rattle.pg_layout.specs.declared.borders.Borders.{Borders}
 use Rattle.pg_layout.specs.declared.borders.HorizontalLine.{HorizontalLine}
@@ -12,7 +12,9 @@ use Rattle.pg_config.specs.Overrides.{no_overrides, with_row_line}
 use Rattle.pg_config.specs.Settings.{Settings}
 use Rattle.pg_picture.specs.Joined.{joined}
 use Rattle.pg_picture.specs.Table.{Table}
-use Rattle.pg_picture.specs.Samples.{table, plain, indent}
+use Rattle.pg_picture.specs.Samples.{table, plain, indent, text_in}
+use Rattle.pg_config.specs.CompactConfig.{CompactSettings, empty_color, default_compact}
+use Rattle.pg_picture.specs.CompactLines.{CompactTable}
 
 -- a table of so many rows and columns, whose texts tell their place as `0-1`
 abbrev pub numbered : ℕ → ℕ → List (List Text)
@@ -55,3 +57,22 @@ spaced left right top bottom = record { left = indent left 32; right = indent ri
 -- a setting for all places
 abbrev pub for_all : {V : Type 0} → V → Settings V
 for_all v = record { base = Some v; rows = []; columns = []; cells = [] }
+
+-- ---- compact tables
+
+abbrev pub no_color : Color
+no_color = empty_color
+
+-- told nothing
+unfoldable pub plain_compact : CompactSettings
+plain_compact = default_compact
+
+abbrev pub compact_table : CompactSettings → ℕ → ℕ → List ℕ → List (List Text) → CompactTable
+compact_table config rows columns widths texts = record {
+  config = config;
+  rows = rows;
+  columns = columns;
+  width = λ c. slice_index_or widths c 0;
+  text = text_in texts;
+  color = λ p. None;
+}

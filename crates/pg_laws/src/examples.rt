@@ -25,8 +25,7 @@ ghost use Rattle.pg_picture.specs.Table.{Known, Table, Unknown};
 ghost use Rattle.pg_picture.specs.Joined.{joined};
 ghost use Rattle.pg_picture.specs.Picture.{compact_picture, picture};
 ghost use Rattle.pg_picture.specs.Samples.{bordered, for_cell, indent, plain, table};
-ghost use Rattle.pg_laws.specs.CompactSamples.{plain_compact, compact_table};
-ghost use Rattle.pg_laws.specs.Samples.{color_b, color_g, color_r, for_all, grid22, one, spaced};
+ghost use Rattle.pg_laws.specs.Samples.{plain_compact, compact_table, color_b, color_g, color_r, for_all, grid22, one, spaced};
 
 /// Two rows and two columns with borders at all places.
 ///

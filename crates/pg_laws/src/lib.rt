@@ -3,8 +3,6 @@
 #![tactic(auto)]
 
 pub mod examples;
-pub mod fits;
-pub mod grids;
 pub mod laws;
 pub mod looks;
 pub mod setters;

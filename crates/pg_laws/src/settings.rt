@@ -6,6 +6,7 @@ ghost use Rattle.pg_laws.specs.SettingLaws.{RowLineCrossings, RowLineVerticals, 
 ghost use Rattle.pg_laws.specs.SettingLaws.{AColumnSpanIsAnswered, ARowSpanIsAnswered, WhatWasSetIsTold, NothingWasSetAtFirst};
 
 /// After a setter, the places that its entity holds have the new value, and all others keep theirs.
+#[tactic(auto, using(crate::proofs::SettingLaws::latest))]
 pub fn the_latest_setting_counts<V>()
     ensures { TheLatestCounts V }
 {}
@@ -28,6 +29,7 @@ pub fn a_border_is_answered()
 
 /// After a row line is set across a table, its horizontals and its crossings have the glyphs of the
 /// line, if it has them. All other places keep theirs.
+#[tactic(auto, using(crate::proofs::SettingLaws::row_line_horizontals, crate::proofs::SettingLaws::row_line_crossings, crate::proofs::SettingLaws::row_line_verticals))]
 pub fn a_row_line_overrides_its_places<G>()
     ensures horizontals { RowLineHorizontals G }
     ensures crossings { RowLineCrossings G }
@@ -43,6 +45,7 @@ pub fn lines_before_the_last_stay()
 
 /// A glyph or a colour set for one glyph of a line is returned at its number, one from the start
 /// before one from the end. Nothing else changes.
+#[tactic(auto, using(crate::proofs::SettingLaws::start_answers, crate::proofs::SettingLaws::end_answers, crate::proofs::SettingLaws::place_answers))]
 pub fn an_offset_is_answered<V>()
     ensures start { AStartIsAnswered V }
     ensures end { AnEndIsAnswered V }
