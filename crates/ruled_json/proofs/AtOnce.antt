@@ -167,6 +167,6 @@ pub foretold-handed-on : {X : Type 0} (right : Option JsonFault) (found : JsonFa
 foretold-handed-on right found (Ok x) h told = absurd told
 foretold-handed-on right found (Err fault) h told = λ counts. h (λ e. counts (told ∙ e)) ∙ ap (λ (f : JsonFault). Some (but_line f)) (sym told)
 
-pub on-true : (b : Bool) (P : Type 0) → b ≡ true → OnTrue b P → P
-on-true true P e p = p
-on-true false P e p = absurd (cc)
+pub on_true : (b : Bool) (P : Type 0) → b ≡ true → OnTrue b P → P
+on_true true P e p = p
+on_true false P e p = absurd (cc)

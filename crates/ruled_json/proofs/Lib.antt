@@ -1,5 +1,4 @@
 pub mod AtOnce
 mod Views
 mod Tables
-mod Nothing
 mod StreamedLines

@@ -227,10 +227,10 @@ whole_row {Z} names items value n row same all made =
     ∙ sym (map-map (λ (column : List ℕ). cell_text (get column value)) string_bytes names)
 
 -- where there is none, none is counted
-pub none-counted : (bytes : List ℕ) → All (λ (byte : ℕ). (byte == 13) ≡ false) bytes → 0 ≡ count_by (λ (byte : ℕ). byte == 13) bytes
-none-counted [] none = refl
-none-counted (byte ∷ bytes) none =
-    none-counted bytes (All-tail (λ (b : ℕ). (b == 13) ≡ false) byte bytes none)
+pub none_counted : (bytes : List ℕ) → All (λ (byte : ℕ). (byte == 13) ≡ false) bytes → 0 ≡ count_by (λ (byte : ℕ). byte == 13) bytes
+none_counted [] none = refl
+none_counted (byte ∷ bytes) none =
+    none_counted bytes (All-tail (λ (b : ℕ). (b == 13) ≡ false) byte bytes none)
     ∙ sym (sum_by-cons (λ (b : ℕ). cond (b == 13) 1 0) byte bytes
     ∙ ap (λ (b : Bool). cond b 1 0 + count_by (λ (c : ℕ). c == 13) bytes) (All-head (λ (b : ℕ). (b == 13) ≡ false) byte bytes none) ∙ zero-add (count_by (λ (c : ℕ). c == 13) bytes))
 

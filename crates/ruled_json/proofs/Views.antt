@@ -4,10 +4,10 @@ use Rattle.std.specs.List.{list_any}
 use Rattle.std.specs.Bool.{OnTrue}
 use Rattle.std.specs.Borrow.{Bor}
 use Rattle.std.proofs.lemmas.List.Folds.{list_any_at}
-use Rattle.std.specs.Str.{bytes_eq, IsUtf8, is_utf8}
+use Rattle.std.specs.Str.{bytes_eq, IsUtf8, is_utf8, chars}
 use Rattle.std.specs.String.{string_eq}
 use Rattle.indexmap.specs.IndexSet.{insert_key}
-use Rattle.json.specs.Json.{Json, null, boolean, number, string, array, object, Items, no_items, item, document}
+use Rattle.json.specs.Json.{Json, null, boolean, number, string, array, object, Items, no_items, item, document, value}
 use Rattle.json.specs.Strict.{keys}
 use Rattle.json.specs.Value.{value_view, items_view, members_view}
 use Rattle.json.specs.declared.value.Value.{Value, Object}
@@ -30,6 +30,7 @@ use Rattle.ruled_json.specs.declared.place.Place.{Place}
 use Rattle.ruled_json.specs.declared.fault.JsonFault.TheVariants.{Encoding, Syntax, Memory}
 use Rattle.std.specs.Cmp.Lexicographic.{pointwise}
 use Rattle.csv.specs.Reading.{is_bom, strip_bom}
+use Rattle.json.specs.Lex.{lex, punctuate}
 
 -- ---- values as they are read, and as the definitions have them
 
@@ -65,15 +66,15 @@ added_as {Z} name texts new text inserted is =
     ap (map string_bytes) inserted ∙ added texts text ∙ ap (with_name (map string_bytes texts)) is
 
 -- the text at a place is among all
-pub column-at : {Z : Type 0} (name known : List ℕ) (texts items : List (String Z)) (i : ℕ) (x : String Z) (b : Bool) → items ≡ texts → i < length items → x ≡ get_or items i x
+pub column_at : {Z : Type 0} (name known : List ℕ) (texts items : List (String Z)) (i : ℕ) (x : String Z) (b : Bool) → items ≡ texts → i < length items → x ≡ get_or items i x
     → known ≡ string_bytes x → b ≡ bytes_eq name known → OnTrue b (list_any (bytes_eq name) (map string_bytes texts) ≡ true)
-column-at name known texts items i x false same within is text found = tt
-column-at {Z} name known texts items i x true same within is text found =
+column_at name known texts items i x false same within is text found = tt
+column_at {Z} name known texts items i x true same within is text found =
     let test : String Z → Bool = λ t. bytes_eq name (string_bytes t) in
     sym (among name texts) ∙ ap (list_any test) (sym same) ∙ list_any_at test items i x within (ap test (sym is) ∙ ap (bytes_eq name) (sym text) ∙ sym found)
 
-pub no-new-name : (columns : List (List ℕ)) (name : List ℕ) → list_any (bytes_eq name) columns ≡ true → columns ≡ with_name columns name
-no-new-name columns name there = rw there refl
+pub no_new_name : (columns : List (List ℕ)) (name : List ℕ) → list_any (bytes_eq name) columns ≡ true → columns ≡ with_name columns name
+no_new_name columns name there = rw there refl
 
 pub kept : {Z : Type 0} (name : List ℕ) (texts : List (String Z)) → list_any (λ (text : String Z). bytes_eq name (string_bytes text)) texts ≡ true
     → map string_bytes texts ≡ with_name (map string_bytes texts) name
@@ -181,3 +182,10 @@ no_mark [] e = refl
 no_mark (a ∷ []) e = refl
 no_mark (a ∷ b ∷ []) e = refl
 no_mark (a ∷ b ∷ c ∷ rest) e = let is : is_bom a b c ≡ false = sym (tests a b c) ∙ e in rw is refl
+
+pub nothing_told : rows_fault [] ≡ Some (Syntax (Near 0))
+unfolding rows_fault chars is_utf8 value lex punctuate
+nothing_told = refl
+
+-- the members of an object
+pub ruleset members = (names_view, view-Object)

@@ -1,6 +1,5 @@
 -- Why JSON holds no rows.
-use Rattle.std.specs.Prelude.{◌≡◌, ◌≢◌, ℕ, ◌+◌, ◌-◌, ◌^◌, min, ◌==◌, take, length, count_by, not, ◌&&◌, Bool, List, [], ◌∷◌, Option, Some, None, is_none, is_some, option_and_then}
-use Rattle.std.specs.Prelude.{Result, Ok, Err, if◌then◌else◌}
+use Rattle.std.specs.Prelude.{◌≡◌, ◌≢◌, ℕ, ◌+◌, ◌-◌, ◌^◌, min, ◌==◌, take, length, count_by, not, ◌&&◌, Bool, List, [], ◌∷◌, Option, Some, None, is_none, is_some, option_and_then, Result, Ok, Err, if◌then◌else◌, ◌++◌, codes, decimal}
 use Rattle.std.specs.Option.{option_or}
 use Rattle.std.specs.Str.{is_utf8}
 use Rattle.json.specs.Json.{Json, null, boolean, number, string, array, object, document}
@@ -87,3 +86,18 @@ first_line_fault n (line ∷ lines) = option_or (line_fault n line) (first_line_
 -- what is wrong with bytes that are to have a value on each line
 unfoldable pub line_rows_fault : List ℕ → Option JsonFault
 line_rows_fault bytes = first_line_fault 1 (lines_of bytes)
+
+-- ---- the words for them
+
+abbrev pub place_text : Place → List ℕ
+place_text (Near line) = codes "line " ++ (decimal line ++ codes ": ")
+place_text (Record n) = codes "record " ++ (decimal n ++ codes ": ")
+place_text (Line n) = codes "line " ++ (decimal n ++ codes ": ")
+
+abbrev pub json_fault_text : JsonFault → List ℕ
+json_fault_text (Encoding place) = place_text place ++ codes "not UTF-8"
+json_fault_text (Syntax place) = place_text place ++ codes "not JSON"
+json_fault_text NoRecords = codes "neither an array nor an object"
+json_fault_text (NoObject place) = place_text place ++ codes "not an object"
+json_fault_text (NoColumn place) = place_text place ++ codes "a member that none of the first rows has"
+json_fault_text Memory = codes "out of memory"

@@ -2,4 +2,3 @@ pub mod Rows
 pub mod Faults
 pub mod Streamed
 pub mod Reading
-pub mod Words

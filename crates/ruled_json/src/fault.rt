@@ -1,7 +1,7 @@
 //! Why JSON holds no rows.
 
 ghost use Rattle.std.specs.Prelude.{◌≡◌, Some};
-ghost use Rattle.ruled_json.specs.Words.{json_fault_text};
+ghost use Rattle.ruled_json.specs.Faults.{json_fault_text};
 ghost use Rattle.ruled_json.specs.declared.fault.JsonFault.TheVariants.{Memory};
 
 use crate::place::Place;

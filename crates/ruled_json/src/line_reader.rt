@@ -17,6 +17,7 @@ use std::alloc::{AllocError, Global};
 use std::mem;
 
 // The bytes without a byte order mark at the front.
+#[tactic(auto, using(crate::proofs::Views::no_mark, crate::proofs::Views::with_mark))]
 fn without_mark(bytes: &[u8]) -> &[u8]
     ensures { result.now ≡ strip_bom bytes.now }
 {

@@ -54,6 +54,7 @@ fn first_return(bytes: &[u8]) -> Option<usize>
 }
 
 // How many carriage returns there are: none in most lines.
+#[tactic(auto, using(crate::proofs::Tables::none_counted))]
 fn returns_in(bytes: &[u8]) -> usize
     ensures { result ≡ count_by (λ byte. byte == 13) bytes.now }
 {

@@ -24,6 +24,7 @@ const NARROW: usize = 32;
 const CELL: usize = 12;
 
 // The members of an object, and no members of another value.
+#[tactic(auto, using(crate::proofs::Views::members))]
 fn members_of<'v, 'a>(value: &'v Value<'a>) -> &'v [(&'a str, Value<'a>)]
     ensures names { map (λ m. m.0.now) result.now ≡ names_in (value_view value.now) }
     ensures members { (name : List ℕ) → get_member name (members_view result.now) ≡ get name (value_view value.now) }
@@ -116,6 +117,7 @@ impl MemberNames {
     }
 
     // Whether there is a column of this name; looks at this place first.
+    #[tactic(auto, using(crate::proofs::AtOnce::on_true))]
     fn has_at(&self, at: usize, name: &str) -> bool
         ensures { result ≡ list_any (bytes_eq name.now) (map string_bytes self.now.names.keys) }
     {
@@ -145,6 +147,7 @@ impl MemberNames {
     }
 
     // Adds a column of this name, unless there is one.
+    #[tactic(auto, using(crate::proofs::Views::added_as, crate::proofs::Views::kept))]
     fn add(&mut self, alloc: Global, name: &str) -> Result<(), AllocError>
         ensures { OnOk result (map string_bytes self.new.names.keys ≡ with_name (map string_bytes self.old.names.keys) name.now) }
     {
@@ -156,6 +159,7 @@ impl MemberNames {
     }
 
     // Whether the column at this place has this name.
+    #[tactic(auto, using(crate::proofs::Views::column_at))]
     fn stands_at(&self, at: usize, name: &str) -> bool
         ensures { OnTrue result (list_any (bytes_eq name.now) (map string_bytes self.now.names.keys) ≡ true) }
     {
@@ -167,6 +171,7 @@ impl MemberNames {
     }
 
     // Adds a column of this name, unless there is one; looks at this place first.
+    #[tactic(auto, using(crate::proofs::Views::no_new_name, crate::proofs::AtOnce::on_true))]
     fn add_at(&mut self, alloc: Global, at: usize, name: &str) -> Result<(), AllocError>
         ensures { OnOk result (map string_bytes self.new.names.keys ≡ with_name (map string_bytes self.old.names.keys) name.now) }
     {

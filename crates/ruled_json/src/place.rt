@@ -1,8 +1,7 @@
 //! Where something is wrong.
 
 ghost use Rattle.std.specs.Prelude.{◌≡◌, Some};
-ghost use Rattle.ruled_json.specs.Words.{place_text};
-ghost use Rattle.ruled_json.specs.Faults.{but_near};
+ghost use Rattle.ruled_json.specs.Faults.{place_text, but_near};
 
 use std::fmt;
 

@@ -47,6 +47,7 @@ pub(crate) fn value_of<'a>(
 }
 
 /// Whether bytes are one JSON value. Allocates only if they are UTF-8.
+#[tactic(auto, using(crate::proofs::Views::no_text, crate::proofs::Views::text_is_value))]
 pub fn is_value(alloc: Global, bytes: &[u8]) -> Result<bool, AllocError>
     ensures value { IfOk result (λ is. is ≡ is_value bytes.now) }
     ensures refused { OnErr result (IsUtf8 bytes.now) }
@@ -104,6 +105,7 @@ fn columns_of(alloc: Global, records: &[Value<'_>]) -> Result<MemberNames, Alloc
 }
 
 // The rows of records.
+#[tactic(auto, using(crate::proofs::Views::each_has_numbers))]
 fn table_of(alloc: Global, records: &[Value<'_>]) -> Result<Vec<StringRecord>, AllocError>
     requires numbers { All HasNumbers (map value_view records.now) }
     ensures { IfOk result (λ rows. map fields_of rows.items ≡ table_of (map value_view records.now)) }

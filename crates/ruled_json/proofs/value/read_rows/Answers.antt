@@ -4,8 +4,7 @@ use Rattle.json.specs.Tree.{HasNumbers}
 use Rattle.json.specs.Value.{value_view}
 use Rattle.ruled_json.specs.Faults.{but_line, rows_fault}
 use Rattle.ruled_json.specs.Rows.{records_of, rows_of, table_of}
-use Rattle.ruled_json.proofs.Nothing.{nothing_told}
-use Rattle.ruled_json.proofs.Views.{handed_on, text_told, value_told, records_have_numbers}
+use Rattle.ruled_json.proofs.Views.{nothing_told, handed_on, text_told, value_told, records_have_numbers}
 use Rattle.ruled_json.proofs.value.read_rows.Goals as goal
 
 pub returns-then-is_empty-clause-fault : goal.returns-then-is_empty-clause-fault

@@ -1,9 +1,0 @@
-use Rattle.std.proofs.Common.{◌∙◌}
-use Rattle.ruled_json.proofs.Views.{no_mark, with_mark}
-use Rattle.ruled_json.proofs.line_reader.without_mark.Goals as goal
-
-pub returns-in-Some : goal.returns-in-Some
-returns-in-Some c = c.in-Some.ensures.cases.1 ∙ with_mark c.args.bytes.now c.in-Some.ensures.cases.0
-
-pub returns-in-None : goal.returns-in-None
-returns-in-None c = no_mark c.args.bytes.now c.in-None.ensures.cases
