@@ -1,7 +1,7 @@
 """What the crates let a caller name: their public functions and types, read from the sources."""
 import re
 
-from crates import TOP
+from repository import TOP
 
 
 def joined(lines):

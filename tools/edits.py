@@ -16,7 +16,7 @@ from dataclasses import dataclass, field
 from pathlib import Path
 from typing import NamedTuple
 
-from crates import TOP
+from repository import TOP
 
 PARTS = ("edit", "file", "old", "new", "function", "verdict")
 

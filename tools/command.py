@@ -1,8 +1,19 @@
-"""The options of `ruled`, as its own `--help` describes them."""
+"""The command `ruled`: its options, as its own `--help` describes them, and the files of an installed one, as they lie below a prefix."""
 import dataclasses
+import gzip
+import pathlib
 import re
 import subprocess
 
+HERE = pathlib.Path(__file__).resolve().parent
+TOP = HERE.parent
+COMPLETIONS = {
+    "bash": "share/bash-completion/completions/ruled",
+    "zsh": "share/zsh/vendor-completions/_ruled",
+    "fish": "share/fish/vendor_completions.d/ruled.fish",
+}
+PROGRAM, COMMAND, PAGE = "lib/ruled/ruled", "bin/ruled", "share/man/man1/ruled.1.gz"
+FILES = [PROGRAM, COMMAND, PAGE, *COMPLETIONS.values()]
 ROW = re.compile(r" +(?:-(\w), )?--([\w-]+)(?:(\[=)?[ ]?<([\w]+)>\]?)?  +(.+)")
 VALUES = re.compile(r" \[possible values: ([^\]]+)\]")
 
@@ -54,3 +65,26 @@ def options_of(program):
 def version_of(program):
     """The version that a program reports, without its name and the logic that it is proved with."""
     return said_by(program, "--version").split()[1]
+
+
+def write(file, data, mode=0o644):
+    """Writes a file, and the folders above it."""
+    file.parent.mkdir(parents=True, exist_ok=True)
+    file.write_bytes(data)
+    file.chmod(mode)
+
+
+def written_by(tool, *words):
+    """What a tool beside this module writes."""
+    return subprocess.run([HERE / tool, *words], check=True, capture_output=True).stdout
+
+
+def lay_out(program, folder):
+    """Puts the stripped program, its launcher, its page and its completions below a folder; returns the files."""
+    write(folder / PROGRAM, program.read_bytes(), 0o755)
+    subprocess.run(["strip", "--remove-section=.comment", folder / PROGRAM], check=True)
+    write(folder / COMMAND, (HERE / "ruled-launcher").read_bytes(), 0o755)
+    write(folder / PAGE, gzip.compress(written_by("man-page", program), 9, mtime=0))
+    for shell, name in COMPLETIONS.items():
+        write(folder / name, written_by("completions", shell, program))
+    return [folder / name for name in FILES]

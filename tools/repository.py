@@ -1,13 +1,15 @@
-"""The crates of the repository, as crates.txt lists them, its version, and the logic that it is proved with.
+"""The crates of the repository, as crates.txt lists them, its version, the logic that it is proved with, and its documents.
 
-`python3 tools/crates.py NAME` prints those below a crate, lowest first, and then that one.
+`python3 tools/repository.py NAME` prints those below a crate, lowest first, and then that one.
 """
 import re
 import sys
 from pathlib import Path
+from typing import NamedTuple, Optional
 
 TOP = Path(__file__).resolve().parent.parent
 VERSION, LOGIC = (line.split()[1] for line in (TOP / "VERSION").read_text().splitlines())
+PAGES = sorted([*TOP.glob("*.md"), *TOP.glob("docs/**/*.md"), *TOP.glob("crates/*/*.md")])
 
 
 def crate_lines(text):
@@ -39,6 +41,35 @@ def sources_of(name):
     """The files that the proof of a crate reads."""
     folders = [TOP / "crates" / name / part for part in ("src", "specs", "proofs")]
     return [file for folder in folders for file in sorted(folder.rglob("*")) if file.is_file()]
+
+
+class Block(NamedTuple):
+    """A line of a page, or a fence with all its lines: the number of its first line, its text, and a fence's word."""
+
+    number: int
+    text: str
+    word: Optional[str]
+
+    def is_fence(self):
+        return self.word is not None
+
+
+def blocks_of(page):
+    """The lines and the fences of a page, in their order."""
+    fence = None
+    for number, line in enumerate(page.read_text().split("\n"), 1):
+        is_edge = line.lstrip().startswith("```")
+        if fence is None and is_edge:
+            fence = Block(number, "", line.strip().removeprefix("```"))
+        elif fence is None:
+            yield Block(number, line, None)
+        elif is_edge:
+            yield fence
+            fence = None
+        else:
+            fence = fence._replace(text=f"{fence.text}{line}\n")
+    if fence:
+        yield fence
 
 
 if __name__ == "__main__":
