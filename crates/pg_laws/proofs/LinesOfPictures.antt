@@ -172,3 +172,6 @@ module _ {R Cell Columns Rows D C Color : Type 0} (records : records.Ghosts R Ce
 
 -- heights and lines of a body
 pub ruleset heights = (rect_height-of_rect, length-table_body)
+
+-- lines are joined by one line feed, at which the picture is cut
+pub ruleset joined_lines = (lines_are_joined, compact_lines_are_joined, lines_are_cut, compact_lines_are_cut)

@@ -28,7 +28,8 @@ use Rattle.pg_picture.proofs.PiecesOfLines.{written-nil, written-append, written
 use Rattle.pg_picture.proofs.Separators.{cut-same, items_after-append, last_color-append, items_after-one, last_color-one, with_cuts-close}
 use Rattle.pg_picture.proofs.Pictures.{body-same}
 use Rattle.pg_laws.specs.Laws.{plain_piece, plain_item, colors_of_piece, ClosesColors, plain_mark, colors_of_mark, without_colors, margin_colors, picture_colors, PictureLinesCloseColors}
-use Rattle.pg_laws.proofs.ColorsOfLines.{Among, closes-same, more-colors, pieces_close_colors, lines_close_colors, zip-append, zip-replicate}
+use Rattle.pg_laws.proofs.ColorsOfLines.{Among, closes-same, more-colors, zip-append, zip-replicate}
+use Rattle.pg_laws.proofs.ColorsOfLines.{pieces_close_colors, separators_close_colors, lines_close_colors, parts_close_colors, compact_lines_close_colors}
 
 -- ---- pieces
 
@@ -352,3 +353,6 @@ module _ (hint : Hint) (t : Table) where
 
 pub picture_lines_close_colors : PictureLinesCloseColors
 picture_lines_close_colors = all-lines
+
+-- each colour is closed in its line
+pub ruleset closed_colors = (pieces_close_colors, separators_close_colors, lines_close_colors, parts_close_colors, compact_lines_close_colors, picture_lines_close_colors)

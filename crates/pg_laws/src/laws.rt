@@ -19,7 +19,7 @@ pub fn no_rows_or_columns_draw_nothing()
 /// Any other picture is its lines, with one line feed between each two: none before the first line,
 /// none after the last. If no line contains a line feed, in a glyph or a colour, cutting a picture
 /// that has lines at its line feeds gives these lines.
-#[tactic(auto, using(crate::proofs::LinesOfPictures::lines_are_joined, crate::proofs::LinesOfPictures::compact_lines_are_joined, crate::proofs::LinesOfPictures::lines_are_cut, crate::proofs::LinesOfPictures::compact_lines_are_cut))]
+#[tactic(auto, using(crate::proofs::LinesOfPictures::joined_lines))]
 pub fn lines_are_joined_by_one_feed()
     ensures table { LinesAreJoined }
     ensures compact { CompactLinesAreJoined }
@@ -47,7 +47,7 @@ pub fn a_block_fills_its_rectangle()
 /// a line consists of parts without a colour, and of parts between the prefix and the suffix of one
 /// of its colours. Without prefixes and suffixes the line is its glyphs, texts and fills, and so
 /// the line of the same table without colours.
-#[tactic(auto, using(crate::proofs::ColorsOfLines::pieces_close_colors, crate::proofs::ColorsOfLines::separators_close_colors, crate::proofs::ColorsOfLines::lines_close_colors, crate::proofs::ColorsOfLines::parts_close_colors, crate::proofs::ColorsOfLines::compact_lines_close_colors, crate::proofs::PictureColors::picture_lines_close_colors))]
+#[tactic(auto, using(crate::proofs::PictureColors::closed_colors))]
 pub fn colors_are_closed_in_their_line()
     ensures pieces { PiecesCloseColors }
     ensures separators { SeparatorsCloseColors }
