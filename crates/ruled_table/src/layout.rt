@@ -1,6 +1,6 @@
 //! What the first rows of a table determine for all its rows.
 
-ghost use Rattle.std.specs.Prelude.{◌≡◌, ◌++◌, ◌∷◌, [], map, slice_index_or, string_bytes, take, true, IfOk, OnOk};
+ghost use Rattle.std.specs.Prelude.{◌≡◌, ◌++◌, ◌∷◌, [], map, slice_index_or, string_bytes, take, true, IfOk};
 ghost use Rattle.csv.specs.Records.{fields_of};
 ghost use Rattle.ruled_table.specs.Faults.{Tells};
 ghost use Rattle.ruled_table.specs.Layouts as spec;
@@ -118,7 +118,7 @@ impl Layout {
         rows: &mut Vec<StringRecord>,
     ) -> Result<Layout, ViewFault>
         ensures layout { IfOk result (λ layout. plan_in layout ≡ spec.layout_of options.now (take count (map fields_of rows.old.items))) }
-        ensures rows { OnOk result (map fields_of rows.new.items ≡ map fields_of rows.old.items) }
+        ensures rows { map fields_of rows.new.items ≡ map fields_of rows.old.items }
         ensures fault { Tells (spec.layout_fault options.now (take count (map fields_of rows.old.items))) result }
     {
         if rows.len() <= count && rows_stand(options, rows) {
@@ -135,15 +135,15 @@ impl Layout {
     ) -> Result<Layout, ViewFault>
         requires { map (map (shown_text options.now)) (map fields_of rows.old.items) ≡ map fields_of rows.old.items }
         ensures layout { IfOk result (λ layout. plan_in layout ≡ spec.layout_of options.now (map fields_of rows.old.items)) }
-        ensures rows { OnOk result (map fields_of rows.new.items ≡ map fields_of rows.old.items) }
+        ensures rows { map fields_of rows.new.items ≡ map fields_of rows.old.items }
         ensures fault { Tells (spec.layout_fault options.now (map fields_of rows.old.items)) result }
     {
         let places = places_of(alloc, &options.columns, rows)?;
         let ruler = first_ruler(alloc, rows)?;
         rows.push(ruler)?;
-        let layout = Layout::of_measured(alloc, options, places, rows)?;
+        let layout = Layout::of_measured(alloc, options, places, rows);
         rows.pop();
-        Ok(layout)
+        layout
     }
 
     // The layout of these rows, by copies of them.

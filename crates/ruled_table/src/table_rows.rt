@@ -142,6 +142,7 @@ impl<'a> TableRows<'a> {
             → OnOk result (GrowsTo (begun_text options plan rows) (whole_text options plan rows) (string_bytes buf.old) (string_bytes buf.new)) }
         ensures fault { (options : Options) (plan : Plan) (rows : List (List Text)) → HasAppended options plan rows self.entry → (fault : ViewFault) → result ≡ Err fault → fault ≡ Memory }
         ensures failed { OnErr result (string_bytes buf.new ≡ string_bytes buf.old) }
+        ensures lost { IsOver self.entry → result ≡ Err Memory }
     {
         let TableRows { rows, is_over, .. } = self;
         if is_over {
