@@ -8,7 +8,7 @@ use ruled_table::{Bounds, Breaking, Look, Options, Overflow};
 use std::alloc::{AllocError, Global};
 use std::env::VarError;
 use std::io::IsTerminal;
-use std::{env, io};
+use std::{env, io, mem};
 
 static RAGGED: [&str; 2] = ["pad", "cut"];
 
@@ -146,7 +146,6 @@ const CHOICES: [Choice; 27] = [
         name: "names",
         value: "NAMES",
         takes: Takes::Text,
-        is_list: true,
         conflicts: &["no-header", "stream"],
         help: "Put a header with these names above the first row",
         ..FLAG
@@ -174,7 +173,6 @@ const CHOICES: [Choice; 27] = [
         short: Some('c'),
         value: "NAMES",
         takes: Takes::Text,
-        is_list: true,
         help: "Print only these columns, in this order, by their names in row 0",
         ..FLAG
     },
@@ -477,7 +475,7 @@ fn rules_asked(found: &ArgMatches) -> Result<RowRules, &'static str> {
 fn asks_for_lines(found: &ArgMatches) -> bool {
     found.get_one::<u32>("skip").is_some()
         || found.get_str("comment").is_some()
-        || found.get_strs("names").is_some()
+        || found.get_str("names").is_some()
 }
 
 // An input of separated values.
@@ -525,18 +523,51 @@ fn look_asked(found: &ArgMatches) -> Result<Look, &'static str> {
     Look::by_name(found.get_str("look").unwrap_or("sharp")).ok_or("no such look")
 }
 
-// The names that were listed.
-fn names_of(alloc: Global, words: Option<&[&str]>) -> Result<Vec<String>, AllocError> {
+// How a list is read.
+#[derive(Clone, Copy)]
+enum Reading {
+    /// Outside quotes, or at the front of a name.
+    Plain,
+    /// Within quotes.
+    Quoted,
+    /// Behind a quote that ends them, unless a second one follows.
+    Closing,
+}
+
+// The names of a list: commas separate them. A name that begins with a quote extends to the next one that isn't doubled.
+fn names_in(alloc: Global, list: &str) -> Result<Vec<String>, AllocError> {
     let mut names = Vec::new(alloc);
-    for word in words.unwrap_or(&[]) {
-        names.push(String::from_str(alloc, word)?)?;
+    let (mut name, mut reading) = (String::new(alloc), Reading::Plain);
+    for c in list.chars() {
+        match (reading, c) {
+            (Reading::Plain, '"') if name.is_empty() => reading = Reading::Quoted,
+            (Reading::Quoted, '"') => reading = Reading::Closing,
+            (Reading::Plain | Reading::Closing, ',') => {
+                names.push(mem::replace(&mut name, String::new(alloc)))?;
+                reading = Reading::Plain;
+            }
+            (Reading::Closing, '"') => {
+                name.push(c)?;
+                reading = Reading::Quoted;
+            }
+            _ => name.push(c)?,
+        }
     }
+    names.push(name)?;
     Ok(names)
+}
+
+// The names that an option lists.
+fn names_of(alloc: Global, list: Option<&str>) -> Result<Vec<String>, AllocError> {
+    match list {
+        Some(list) => names_in(alloc, list),
+        None => Ok(Vec::new(alloc)),
+    }
 }
 
 // The names of the columns that are shown, that of the numbers among them.
 fn columns_of(alloc: Global, found: &ArgMatches) -> Result<Vec<String>, AllocError> {
-    let mut names = names_of(alloc, found.get_strs("columns"))?;
+    let mut names = names_of(alloc, found.get_str("columns"))?;
     if found.get_flag("number") && !names.is_empty() {
         names.insert(0, String::from_str(alloc, "#")?)?;
     }
@@ -620,7 +651,7 @@ fn view_of(
         has_header: !found.get_flag("no-header"),
         columns: columns_of(alloc, found)?,
         sides: sides_of(alloc, found.get_strs("align"))?,
-        names: names_of(alloc, found.get_strs("names"))?,
+        names: names_of(alloc, found.get_str("names"))?,
         is_numbered: found.get_flag("number"),
         is_padded: is_padded(found),
         head: found.get_one::<u32>("head"),

@@ -3,10 +3,12 @@
 #![tactic(auto)]
 
 mod arguments;
+mod compression;
 mod logs;
 mod waiting;
 
 use crate::arguments::{Asked, Wanted, read_arguments};
+use crate::compression::unpacker;
 use crate::logs::log_beside;
 use crate::waiting::Waiting;
 use ruled_io::{Output, Pieces, Quoted, Request, Source, run};
@@ -53,6 +55,14 @@ fn show(rt: &HostRuntime, wanted: Wanted) -> io::Result<u8> {
     let Some(name) = &wanted.file else {
         return show_input(rt, &request, rt.stdin());
     };
+    if let Some(unpacker) = unpacker(rt, name.as_str())? {
+        let name = Quoted(name.as_str());
+        let _ = writeln!(
+            rt.stderr(),
+            "ruled: {name}: compressed; try {unpacker} {name} | ruled"
+        );
+        return Ok(2);
+    }
     match open(rt, name.as_str(), &mut request) {
         Ok(file) => show_input(rt, &request, file),
         Err(error) if error.kind() == ErrorKind::OutOfMemory => Err(error),
