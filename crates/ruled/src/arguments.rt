@@ -173,7 +173,7 @@ const CHOICES: [Choice; 27] = [
         short: Some('c'),
         value: "NAMES",
         takes: Takes::Text,
-        help: "Print only these columns, in this order, by their names in row 0",
+        help: "Print only these columns, in this order, by their names in row 0 or their numbers, as 1-3; a ! in front leaves them out",
         ..FLAG
     },
     Choice {
@@ -565,13 +565,13 @@ fn names_of(alloc: Global, list: Option<&str>) -> Result<Vec<String>, AllocError
     }
 }
 
-// The names of the columns that are shown, that of the numbers among them.
+// The words for the columns that are shown. If some ask for columns, that of the numbers is in front.
 fn columns_of(alloc: Global, found: &ArgMatches) -> Result<Vec<String>, AllocError> {
-    let mut names = names_of(alloc, found.get_str("columns"))?;
-    if found.get_flag("number") && !names.is_empty() {
-        names.insert(0, String::from_str(alloc, "#")?)?;
+    let mut words = names_of(alloc, found.get_str("columns"))?;
+    if found.get_flag("number") && words.iter().any(|word| !word.as_str().starts_with('!')) {
+        words.insert(0, String::from_str(alloc, "#")?)?;
     }
-    Ok(names)
+    Ok(words)
 }
 
 // The side that a word names, where it names one.

@@ -4,3 +4,4 @@ pub mod Tables
 pub mod RowsInParts
 pub mod RowPictures
 pub mod DigitsAlone
+pub mod WordsOfColumns

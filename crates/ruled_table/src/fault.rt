@@ -12,7 +12,8 @@ use std::alloc::{AllocError, AllocFailed};
 /// Why rows have no table.
 #[derive(Clone, Copy)]
 pub enum ViewFault {
-    /// Row 0 has no field of this name, of those that [`crate::Options::columns`] lists, counted from 0.
+    /// Row 0 has no column for this word, of those that [`crate::Options::columns`] lists, counted from 0, or no column
+    /// stays.
     Column(usize),
     /// The sizes of the table are too large.
     Totals,

@@ -20,8 +20,8 @@ fn has_figures_alone(text: &[u8]) -> bool
         .all(|byte| byte.is_ascii_digit() || *byte == b',')
 }
 
-// Digits, at least one.
-fn are_digits(text: &[u8]) -> bool
+/// Digits, at least one.
+pub(crate) fn are_digits(text: &[u8]) -> bool
     ensures { result ≡ spec.are_digits text.now }
 {
     !text.is_empty() && has_digits_alone(text)

@@ -11,8 +11,8 @@ pub struct Options {
     pub look: Look,
     /// Whether row 0 is a header, with a line below it.
     pub has_header: bool,
-    /// The shown columns, in this order, by their names in row 0. If no name is listed, all are
-    /// shown.
+    /// Words for the shown columns, in this order: a name in row 0, or else a number, from 1 on, or a range, as `2-4`.
+    /// A word with a `!` in front leaves columns out. If no word asks for columns, all others are shown.
     pub columns: Vec<String>,
     /// The alignment of each shown column; one alone is for all. A column without one, or with
     /// `None`, is right-aligned if each text below the header is a number, blank or `⋮`, else
