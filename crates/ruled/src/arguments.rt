@@ -89,7 +89,7 @@ const FLAG: Choice = Choice {
 };
 
 /// All arguments, in the order of the help.
-const CHOICES: [Choice; 27] = [
+const CHOICES: [Choice; 29] = [
     Choice {
         name: "file",
         value: "FILE",
@@ -201,6 +201,12 @@ const CHOICES: [Choice; 27] = [
         ..FLAG
     },
     Choice {
+        name: "count",
+        conflicts: &["stream", "markdown"],
+        help: "Say below the table how many rows and columns there are",
+        ..FLAG
+    },
+    Choice {
         name: "look",
         short: Some('l'),
         value: "LOOK",
@@ -215,6 +221,13 @@ const CHOICES: [Choice; 27] = [
         takes: Takes::Side,
         is_list: true,
         help: "Align columns left, right, centre or auto, which is right if all texts below the header are numbers; one word is for all columns",
+        ..FLAG
+    },
+    Choice {
+        name: "missing",
+        value: "TEXTS",
+        takes: Takes::Text,
+        help: "Count these texts as blank where a column of numbers is aligned right, such as NA,NULL",
         ..FLAG
     },
     Choice {
@@ -651,12 +664,14 @@ fn view_of(
         has_header: !found.get_flag("no-header"),
         columns: columns_of(alloc, found)?,
         sides: sides_of(alloc, found.get_strs("align"))?,
+        missing: names_of(alloc, found.get_str("missing"))?,
         names: names_of(alloc, found.get_str("names"))?,
         is_numbered: found.get_flag("number"),
         is_padded: is_padded(found),
         head: found.get_one::<u32>("head"),
         tail: found.get_one::<u32>("tail"),
         ends: found.get_one::<u32>("ends"),
+        is_counting: found.get_flag("count"),
         is_vertical: found.get_flag("vertical"),
         bounds: bounds_of(alloc, found, screen.columns)?,
         is_omitting: is_omitting(found, screen),

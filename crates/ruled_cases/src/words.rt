@@ -85,6 +85,7 @@ fn add(alloc: Global, view: &mut Options, name: &str, value: &str) -> Result<boo
         "limit" => view.bounds.limits.push(value.parse().ok())?,
         "column" => view.columns.push(meant(alloc, value)?)?,
         "name" => view.names.push(meant(alloc, value)?)?,
+        "missing" => view.missing.push(meant(alloc, value)?)?,
         "align" => {
             let Some(side) = side_of(value) else {
                 return Ok(false);
@@ -116,6 +117,7 @@ fn set_value(request: &mut Request, name: &str, value: &str) -> Option<()> {
         "no-header" => view.has_header = false,
         "number" => view.is_numbered = true,
         "omit" => view.is_omitting = true,
+        "count" => view.is_counting = true,
         "raw" => view.is_raw = true,
         "vertical" => view.is_vertical = true,
         "markdown" => {

@@ -5,7 +5,7 @@ use Rattle.std.specs.List.{flat_map}
 use Rattle.std.specs.Option.{option_or}
 use Rattle.std.specs.Io.KnownBytes.{Appends}
 use Rattle.std.specs.Result.{IsErrAnd, result_err}
-use Rattle.std.proofs.KnownBytes.{Appends-nil, Keeps-refl}
+use Rattle.std.proofs.KnownBytes.{Appends-nil, Appends-trans, Keeps-refl}
 use Rattle.std.proofs.lemmas.Bool.{false≢true, true≢false}
 use Rattle.pg_layout.specs.Text.{Text}
 use Rattle.ruled_table.specs.Appended.{HasAppended}
@@ -16,7 +16,7 @@ use Rattle.ruled_table.specs.Layouts.{first_fault, layout_of, whole_text}
 use Rattle.ruled_table.specs.Arranged.{arranged, chosen_rows}
 use Rattle.ruled_table.specs.Plans.{Plan}
 use Rattle.ruled_table.specs.RowLines.{begun_text}
-use Rattle.ruled_table.specs.View.{all_fault, all_text, table_fault, table_text, whole_fault, whole_table}
+use Rattle.ruled_table.specs.View.{all_fault, table_fault, whole_fault, whole_table}
 use Rattle.ruled_table.specs.declared.fault.ViewFault.{ViewFault}
 use Rattle.ruled_table.specs.declared.fault.ViewFault.TheVariants as view
 use Rattle.ruled_table.specs.declared.options.Options.{Options}
@@ -173,13 +173,32 @@ whole-draws options plan given rows old new result laid same none draws =
     let so : Draws (whole_text options plan rows) None old new result = draws-so (whole_text options plan rows) None old new result draws in
     subst (λ (w : Option ViewFault). Draws (whole_table options given) w old new result) (sym none) (subst (λ (t : Text). Draws t None old new result) text so)
 
--- those that are shown of all rows, in one form of two
-pub shown-draws : {X : Type 0} (options : Options) (all rows : List (List Text)) (text : Text) (wrong : Option ViewFault) (old new : Option (List ℕ)) (result : Result X RunFault) → rows ≡ chosen_rows options all → column_fault options.columns.items (arranged options all) ≡ None
-    → text ≡ all_text options rows → wrong ≡ all_fault options rows → Draws text wrong old new result → Draws (table_text options all) (table_fault options all) old new result
-shown-draws options all rows text wrong old new result are named is told draws =
-    let texts : text ≡ table_text options all = is ∙ ap (all_text options) are in
-    let faults : wrong ≡ table_fault options all = told ∙ ap (all_fault options) are ∙ ap (λ (f : Option ViewFault). option_or f (all_fault options (chosen_rows options all))) (sym named) in
-    subst (λ (w : Option ViewFault). Draws (table_text options all) w old new result) faults (subst (λ (t : Text). Draws t wrong old new result) texts draws)
+-- where a text ends before its end, so does a longer one
+draws-longer : (text more : Text) (wrong : Option ViewFault) (old new : Option (List ℕ)) (fault : RunFault) → Draws text wrong old new {X = Unit {0}} (Err fault) → Draws (text ++ more) wrong old new {X = Unit {0}} (Err fault)
+draws-longer text more wrong old new (Input fault) (soft, lost) = (soft, λ memory. begins-longer old new text more (lost memory))
+draws-longer text more wrong old new Read drawn = drawn
+draws-longer text more wrong old new Closed begun = begins-longer old new text more begun
+draws-longer text more wrong old new Write begun = begins-longer old new text more begun
+
+pub draws-handed : (text more : Text) (wrong : Option ViewFault) (old new : Option (List ℕ)) (found : RunFault) (result : Result (Unit {0}) RunFault) → Draws text wrong old new {X = Unit {0}} (Err found) → IsErrAnd result (λ fault. fault ≡ found)
+    → Draws (text ++ more) wrong old new result
+draws-handed text more wrong old new found (Ok x) drawn is = absurd is
+draws-handed text more wrong old new found (Err fault) drawn is = subst (λ (f : RunFault). Draws (text ++ more) wrong old new {X = Unit {0}} (Err f)) (sym is) (draws-longer text more wrong old new found drawn)
+
+-- and where it is drawn, what is written behind it makes the longer one
+pub draws-behind : {X : Type 0} (text more bytes : Text) (wrong : Option ViewFault) (old mid new : Option (List ℕ)) (result : Result X RunFault) → wrong ≡ None → Appends old mid text → bytes ≡ more
+    → OnOk result (Appends mid new bytes) → OnErr result (Begins mid new bytes) → ((fault : RunFault) → result ≡ Err fault → is_of_write fault ≡ true) → Draws (text ++ more) wrong old new result
+draws-behind text more bytes wrong old mid new (Ok x) fine drawn is wrote begun failed = (fine, Appends-trans old mid new text more drawn (subst (Appends mid new) is wrote))
+draws-behind text more bytes wrong old mid new (Err fault) fine drawn is wrote begun failed =
+    draws-so (text ++ more) wrong old new {X = Unit {0}} (Err fault)
+    (let (read, early) = of-write fault (failed fault refl) in (read, early, begins-behind old mid new text more drawn (subst (Begins mid new) is begun)))
+
+pub same-draws : {X : Type 0} (text same : Text) (wrong right : Option ViewFault) (old new : Option (List ℕ)) (result : Result X RunFault) → text ≡ same → wrong ≡ right → Draws text wrong old new result → Draws same right old new result
+same-draws text same wrong right old new result is told drawn = subst (λ (w : Option ViewFault). Draws same w old new result) told (subst (λ (t : Text). Draws t wrong old new result) is drawn)
+
+-- what is wrong with rows of which no word for a column is wrong
+pub wrong-shown : (options : Options) (all rows : List (List Text)) → rows ≡ chosen_rows options all → column_fault options.columns.items (arranged options all) ≡ None → all_fault options rows ≡ table_fault options all
+wrong-shown options all rows are named = ap (all_fault options) are ∙ ap (λ (f : Option ViewFault). option_or f (all_fault options (chosen_rows options all))) (sym named)
 
 -- those that are shown have the columns of all
 pub chosen-named : (options : Options) (all rows : List (List Text)) → rows ≡ chosen_rows options all → column_fault options.columns.items (arranged options all) ≡ None → column_fault options.columns.items rows ≡ None

@@ -1,14 +1,14 @@
 -- A run at once, and a stream whose first rows are all rows.
-use Rattle.std.proofs.Common.{◌≡◌, ◌∙◌, ◌∷◌, ◌≤◌, ℕ, suc, List, [], Bool, true, false, Option, None, Some, length, take, arith, refl, sym, ap, subst}
+use Rattle.std.proofs.Common.{◌≡◌, ◌∙◌, ◌∷◌, ◌++◌, ◌≤◌, ℕ, suc, List, [], Bool, true, false, Option, None, Some, length, take, arith, refl, sym, ap, subst}
 use Rattle.std.specs.Prelude.{◌≢◌, ◌==◌, is_some, map, option_map, string_bytes, if◌then◌else◌}
 use Rattle.std.specs.Option.{option_or}
 use Rattle.std.proofs.lemmas.Bool.Decides.{nat_tests}
-use Rattle.std.proofs.lemmas.List.{take_all}
+use Rattle.std.proofs.lemmas.List.{append-nil, take_all}
 use Rattle.pg_layout.specs.Text.{Text}
 use Rattle.ruled_csv.specs.Faults.{rows_fault}
 use Rattle.ruled_csv.proofs.SoundRows.{all-sound}
 use Rattle.ruled_json.specs.Streamed.{streamed_line_fault}
-use Rattle.ruled_table.specs.Arranged.{arranged, ends_of, even, named, numbered, tails}
+use Rattle.ruled_table.specs.Arranged.{arranged, chosen_rows, ends_of, even, named, numbered, tails}
 use Rattle.ruled_table.specs.Columns.{column_fault}
 use Rattle.ruled_table.specs.Layouts.{first_fault, layout_of, start_fault, whole_text}
 use Rattle.ruled_table.specs.Shown.{heads}
@@ -101,7 +101,9 @@ module _ (options : Options) (each : ShowsEachRow options) where
     one-text : first_wrong options count rows None ≡ None → shown_text options count rows None ≡ table_text options rows
     one-text none =
         let whole : table_text options rows ≡ whole_table options rows =
-        ap (λ (rs : List (List Text)). all_text options (ends_of options.ends (tails options (heads options rs)))) (same-arranged rows)
+        ap (λ (t : Text). all_text options (chosen_rows options rows) ++ t) (rw each.uncounted refl)
+        ∙ append-nil (all_text options (chosen_rows options rows))
+        ∙ ap (λ (rs : List (List Text)). all_text options (ends_of options.ends (tails options (heads options rs)))) (same-arranged rows)
         ∙ rw (each.head, each.tail, each.ends, each.vertical) refl
         in
         ap (λ (wrong : Option RunFault). if is_some wrong then [] else whole_text options (first_plan options count rows None) rows) none

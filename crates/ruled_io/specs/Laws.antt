@@ -23,6 +23,7 @@ pub record ShowsEachRow (options : Options) : Type 0 where
   pub head : options.head ≡ None
   pub tail : options.tail ≡ None
   pub ends : options.ends ≡ None
+  pub uncounted : options.is_counting ≡ false
   pub vertical : options.is_vertical ≡ false
 
 module _ (request : Request) (count : ℕ) (bytes : List ℕ) where

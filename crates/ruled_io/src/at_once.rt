@@ -11,7 +11,7 @@ ghost use Rattle.ruled_table.specs.Columns.{column_fault};
 ghost use Rattle.ruled_table.specs.Layouts.{whole_text};
 ghost use Rattle.ruled_table.specs.Named.{HasNames};
 ghost use Rattle.ruled_table.specs.Plans.{Plan};
-ghost use Rattle.ruled_table.specs.View.{table_fault, table_text, whole_fault, whole_table};
+ghost use Rattle.ruled_table.specs.View.{all_fault, all_text, table_fault, table_text, whole_fault, whole_table};
 ghost use Rattle.ruled_io.specs.Faults.{is_early, is_read};
 ghost use Rattle.ruled_io.specs.Output.{TellsWrite, failure_of, write_part, Begins};
 ghost use Rattle.ruled_io.specs.Reading.{ReportsRead, has_failed};
@@ -173,7 +173,24 @@ fn show_blocks<W: Write + Drop>(
     write_blocks(&blocks, below_names(rows), out)
 }
 
-// Shows those of all rows that are asked.
+// Shows these rows as one table, or as blocks.
+fn show_chosen<W: Write + Drop>(
+    alloc: Global,
+    options: &Options,
+    rows: Vec<StringRecord>,
+    out: &mut Output<W>,
+) -> Result<(), RunFault>
+    ensures draws { column_fault options.now.columns.items (map fields_of rows.items) ≡ None
+        → Draws (all_text options.now (map fields_of rows.items)) (all_fault options.now (map fields_of rows.items)) (W.contents out.old.writer) (W.contents out.new.writer) result }
+    ensures told { TellsWrite (failure_of out.old) (failure_of out.new) result }
+{
+    if options.is_vertical {
+        return show_blocks(alloc, options, &rows, out);
+    }
+    show_whole(alloc, options, rows, out)
+}
+
+// Shows those of all rows that are asked, and the line below them.
 fn show_rows<W: Write + Drop>(
     alloc: Global,
     options: &Options,
@@ -183,11 +200,9 @@ fn show_rows<W: Write + Drop>(
     ensures draws { Draws (table_text options.now (map fields_of rows.items)) (table_fault options.now (map fields_of rows.items)) (W.contents out.old.writer) (W.contents out.new.writer) result }
     ensures told { TellsWrite (failure_of out.old) (failure_of out.new) result }
 {
-    let rows = chosen_rows(alloc, options, rows)?;
-    if options.is_vertical {
-        return show_blocks(alloc, options, &rows, out);
-    }
-    show_whole(alloc, options, rows, out)
+    let chosen = chosen_rows(alloc, options, rows)?;
+    show_chosen(alloc, options, chosen.rows, out)?;
+    out.write(chosen.count.as_bytes())
 }
 
 /// Shows the rows that are asked of an input when all of them are there.

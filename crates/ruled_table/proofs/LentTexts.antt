@@ -28,7 +28,7 @@ use Rattle.ruled_table.specs.Arranged.{both_ends, gap_of, last_of}
 use Rattle.std.proofs.lemmas.List.Sums.{fold-append}
 use Rattle.pg_layout.specs.declared.alignment.AlignmentHorizontal.{AlignmentHorizontal}
 use Rattle.pg_config.specs.Settings.{Settings}
-use Rattle.ruled_table.specs.Sides.{with_side, with_sides}
+use Rattle.ruled_table.specs.Sides.{body_of, with_side, with_sides}
 
 -- ---- rows whose texts are fields of records, with names, sizes and escapes
 
@@ -267,6 +267,11 @@ pub are-ends : {X : Type 0} (f : X → List Text) (xs : List X) (x y : X) (count
     → take (count + 1) (map f xs) ++ f x ∷ drop (length xs - count) (map f xs) ≡ both_ends count (map f xs)
 are-ends f xs x y count is first =
     ap₂ (λ gap end. take (count + 1) (map f xs) ++ gap ∷ drop end (map f xs)) (is ∙ ap gap_of first) (ap (λ n. n - count) (sym (length-map xs f)))
+
+-- a function of each row leaves as many below a header
+pub body-length : {X Y : Type 0} (f : X → Y) (has_header : Bool) (xs : List X) → length (body_of has_header xs) ≡ length (body_of has_header (map f xs))
+body-length f true xs = sym (length-map (drop 1 xs) f) ∙ ap length (sym (drop-map f 1 xs))
+body-length f false xs = sym (length-map xs f)
 
 -- ---- the sides of one column more
 

@@ -1,10 +1,12 @@
 -- The rows of a table, of the rows that an input holds.
-use Rattle.std.specs.Prelude.{ℕ, ◌+◌, ◌-◌, ◌*◌, ◌==◌, nat_lt, max, List, [], ◌∷◌, ◌++◌, drop, length, map, replicate, slice_index_or, string_bytes, take, Option, Some, None, if◌then◌else◌}
+use Rattle.std.specs.Prelude.{ℕ, ◌+◌, ◌-◌, ◌*◌, ◌==◌, nat_lt, max, List, [], ◌∷◌, ◌++◌, codes, drop, length, map, replicate, slice_index_or, string_bytes, take, Option, Some, None, if◌then◌else◌}
 use Rattle.std.specs.Fmt.{decimal}
 use Rattle.std.specs.List.{range_with_len}
 use Rattle.pg_layout.specs.Text.{Text}
+use Rattle.ruled_table.specs.Columns.{places_of}
 use Rattle.ruled_table.specs.Numbers.{gap}
 use Rattle.ruled_table.specs.Shown.{heads}
+use Rattle.ruled_table.specs.Sides.{body_of}
 use Rattle.ruled_table.specs.declared.options.Options.{Options}
 
 -- ---- names
@@ -79,6 +81,24 @@ both_ends count rows = take (count + 1) rows ++ gap_of (slice_index_or rows 0 []
 abbrev pub ends_of : Option ℕ → List (List Text) → List (List Text)
 ends_of None rows = rows
 ends_of (Some count) rows = if nat_lt (2 * count + 1) (length rows) then both_ends count rows else rows
+
+-- ---- the line that counts
+
+-- what a word for several ends with
+abbrev pub plural : ℕ → Text
+plural count = if count == 1 then [] else codes "s"
+
+-- so many rows and columns, and a line feed
+abbrev pub count_of : ℕ → ℕ → Text
+count_of rows columns = decimal rows ++ (codes " row" ++ (plural rows ++ (codes ", " ++ (decimal columns ++ (codes " column" ++ (plural columns ++ 10 ∷ []))))))
+
+-- the rows below a header, and so many columns, where they are counted
+abbrev pub count_by : Options → List (List Text) → ℕ → Text
+count_by options rows columns = if options.is_counting then count_of (length (body_of options.has_header rows)) columns else []
+
+-- of the rows of an input those that the head allows, and the columns that are asked for
+abbrev pub count_text : Options → List (List Text) → Text
+count_text options rows = count_by options (heads options (arranged options rows)) (length (places_of options.columns.items (arranged options rows)))
 
 -- ---- all of it
 

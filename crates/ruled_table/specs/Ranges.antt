@@ -22,7 +22,7 @@ module _ (options : Options) (rows : List (List Text)) where
 
   -- Columns of numbers keep room for their numbers, while others have at least two columns for their texts.
   abbrev pub least_of : ℕ → ℕ
-  least_of column = if is_numeric (body_of options.has_header rows) column then widest_text (body_of options.has_header rows) column + 2 else 4
+  least_of column = if is_numeric options (body_of options.has_header rows) column then widest_text (body_of options.has_header rows) column + 2 else 4
 
   abbrev pub range_of : ℕ → ColumnRange
   range_of column = record { least = min (natural_of column) (least_of column); natural = natural_of column }

@@ -56,4 +56,4 @@ line_in options = if options.has_header then header_line_of options.look else No
 
 -- each column at its side
 abbrev pub sided_config : Options → List (List Text) → Config
-sided_config options rows = sided options.has_header options.sides.items rows (look_config options.look)
+sided_config options rows = sided options rows (look_config options.look)

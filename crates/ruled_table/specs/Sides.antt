@@ -1,6 +1,6 @@
 -- At which side of its cells the texts of a column stand.
-use Rattle.std.specs.Prelude.{ℕ, ◌||◌, Bool, List, [], drop, slice_index_or, fold, Option, unwrap_or, if◌then◌else◌}
-use Rattle.std.specs.List.{list_all, range_with_len}
+use Rattle.std.specs.Prelude.{ℕ, ◌||◌, Bool, List, [], drop, slice_index_or, fold, string_bytes, unwrap_or, if◌then◌else◌}
+use Rattle.std.specs.List.{list_all, list_any, range_with_len}
 use Rattle.std.specs.Str.{bytes_eq}
 use Rattle.pg_layout.specs.Records.{columns_of}
 use Rattle.pg_layout.specs.Text.{Text}
@@ -11,6 +11,7 @@ use Rattle.pg_config.specs.Config.{Config}
 use Rattle.pg_config.specs.Settings.{Settings, with_setting}
 use Rattle.ruled_table.specs.Columns.{told_of}
 use Rattle.ruled_table.specs.Numbers.{gap, is_blank, is_number}
+use Rattle.ruled_table.specs.declared.options.Options.{Options}
 
 -- ---- columns of numbers
 
@@ -18,19 +19,20 @@ use Rattle.ruled_table.specs.Numbers.{gap, is_blank, is_number}
 abbrev pub body_of : {X : Type 0} → Bool → List X → List X
 body_of has_header rows = if has_header then drop 1 rows else rows
 
-abbrev pub is_numeric_text : Text → Bool
-is_numeric_text text = (is_blank text || is_number text) || bytes_eq text gap
+-- a number, blank, `⋮`, or one of the texts that count as blank
+abbrev pub is_numeric_text : Options → Text → Bool
+is_numeric_text options text = (is_blank text || is_number text) || (bytes_eq text gap || list_any (λ word. bytes_eq text (string_bytes word)) options.missing.items)
 
--- each text of the column is a number or blank, or `⋮`
-abbrev pub is_numeric : List (List Text) → ℕ → Bool
-is_numeric rows column = list_all (λ row. is_numeric_text (slice_index_or row column [])) rows
+-- each text of the column is
+abbrev pub is_numeric : Options → List (List Text) → ℕ → Bool
+is_numeric options rows column = list_all (λ row. is_numeric_text options (slice_index_or row column [])) rows
 
 -- ---- sides
 
 -- where nothing is said, numbers stand at the right
-abbrev pub side_of : Bool → List (Option AlignmentHorizontal) → List (List Text) → ℕ → AlignmentHorizontal
-side_of has_header sides rows column =
-    unwrap_or (told_of sides column) (if is_numeric (body_of has_header rows) column then Right else Left)
+abbrev pub side_of : Options → List (List Text) → ℕ → AlignmentHorizontal
+side_of options rows column =
+    unwrap_or (told_of options.sides.items column) (if is_numeric options (body_of options.has_header rows) column then Right else Left)
 
 -- ---- their settings
 
@@ -45,5 +47,5 @@ abbrev pub with_sides : (ℕ → AlignmentHorizontal) → ℕ → Settings Align
 with_sides side columns settings = fold (λ settings column. with_side column (side column) settings) settings (range_with_len 0 columns)
 
 -- the columns of these rows at their sides
-abbrev pub sided : Bool → List (Option AlignmentHorizontal) → List (List Text) → Config → Config
-sided has_header sides rows config = record config { alignment_horizontal = with_sides (side_of has_header sides rows) (columns_of rows) config.alignment_horizontal }
+abbrev pub sided : Options → List (List Text) → Config → Config
+sided options rows config = record config { alignment_horizontal = with_sides (side_of options rows) (columns_of rows) config.alignment_horizontal }

@@ -1,8 +1,8 @@
 -- The text of rows, and why there is none.
-use Rattle.std.specs.Prelude.{List, ◌∷◌, [], Option, None, if◌then◌else◌}
+use Rattle.std.specs.Prelude.{List, ◌∷◌, ◌++◌, [], Option, None, if◌then◌else◌}
 use Rattle.std.specs.Option.{option_or}
 use Rattle.pg_layout.specs.Text.{Text}
-use Rattle.ruled_table.specs.Arranged.{arranged, chosen_rows}
+use Rattle.ruled_table.specs.Arranged.{arranged, chosen_rows, count_text}
 use Rattle.ruled_table.specs.Blocks.{blocks_fault, blocks_text}
 use Rattle.ruled_table.specs.Columns.{column_fault}
 use Rattle.ruled_table.specs.Layouts.{first_fault, layout_of, whole_text}
@@ -30,8 +30,9 @@ all_fault options rows = if options.is_vertical then blocks_fault options rows e
 
 -- ---- of those that are shown of an input's rows
 
+-- and the line below that counts
 abbrev pub table_text : Options → List (List Text) → Text
-table_text options rows = all_text options (chosen_rows options rows)
+table_text options rows = all_text options (chosen_rows options rows) ++ count_text options rows
 
 -- why there is none: the names of columns, or the sizes
 abbrev pub table_fault : Options → List (List Text) → Option ViewFault

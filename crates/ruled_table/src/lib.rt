@@ -30,5 +30,5 @@ pub use crate::look::Look;
 pub use crate::options::Options;
 pub use crate::rows::limit_of;
 pub use crate::table_rows::TableRows;
-pub use crate::view::chosen_rows;
+pub use crate::view::{Chosen, chosen_rows};
 pub use pg_table::{Breaking, Overflow};

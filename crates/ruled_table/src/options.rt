@@ -15,9 +15,11 @@ pub struct Options {
     /// A word with a `!` in front leaves columns out. If no word asks for columns, all others are shown.
     pub columns: Vec<String>,
     /// The alignment of each shown column; one alone is for all. A column without one, or with
-    /// `None`, is right-aligned if each text below the header is a number, blank or `⋮`, else
+    /// `None`, is right-aligned if each text below the header is a number, blank, `⋮` or one of `missing`, else
     /// left-aligned.
     pub sides: Vec<Option<AlignmentHorizontal>>,
+    /// Texts that count as blank when the side of a column is chosen.
+    pub missing: Vec<String>,
     /// Row 0, which is in front of all rows of the input, with an empty name for each further column of their first one.
     /// If no name is listed, row 0 is the first row of the input.
     pub names: Vec<String>,
@@ -33,6 +35,9 @@ pub struct Options {
     /// How many rows are shown at both ends of those below row 0, if there are more. A row of `⋮` is in
     /// place of the others.
     pub ends: Option<u32>,
+    /// Whether a line below the table, with a line feed, says how many rows below a header `head` allows, and how many
+    /// columns are asked for.
+    pub is_counting: bool,
     /// Whether each row below row 0 is shown as a block of its own: a table with a row for each
     /// field, with its name in row 0 and its text, both left-aligned, and an empty line below it.
     pub is_vertical: bool,

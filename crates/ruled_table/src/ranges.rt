@@ -35,7 +35,7 @@ fn range_of(options: &Options, rows: LentRows<'_>, column: usize) -> ColumnRange
         records: body_of(options.has_header, rows.records),
         places: rows.places,
     };
-    if !is_numeric(body, column) {
+    if !is_numeric(options, body, column) {
         return ColumnRange {
             least: natural.min(4),
             natural,

@@ -1,7 +1,8 @@
 //! The alignment of columns.
 
-ghost use Rattle.std.specs.Prelude.{◌≡◌, [], slice_index_or, OnOk};
-ghost use Rattle.std.specs.List.{list_all};
+ghost use Rattle.std.specs.Prelude.{◌≡◌, [], slice_index_or, string_bytes, OnOk};
+ghost use Rattle.std.specs.List.{list_all, list_any};
+ghost use Rattle.std.specs.Str.{bytes_eq};
 ghost use Rattle.csv.specs.Records.{fields_of};
 ghost use Rattle.pg_layout.specs.Records.{columns_of};
 ghost use Rattle.ruled_table.specs.LentRows.{fields_at, texts_of};
@@ -10,33 +11,51 @@ ghost use Rattle.ruled_table.specs.Sides as spec;
 use crate::columns::told_of;
 use crate::lent_rows::{LentRows, text_in};
 use crate::numbers::{GAP, is_blank, is_number};
+use crate::options::Options;
 use csv::StringRecord;
 use pg_config::SpannedConfig;
 use pg_layout::{AlignmentHorizontal, Entity, Records};
 use std::alloc::AllocError;
 
-// Whether the text of a row in this column is a number or blank, or `⋮`.
-fn has_number(fields: &StringRecord, places: &[Option<usize>], column: usize) -> bool
-    ensures { result ≡ spec.is_numeric_text (slice_index_or (fields_at places.now (fields_of fields.now)) column []) }
+// Whether a text counts as blank, since it says so.
+fn is_missing(options: &Options, text: &str) -> bool
+    ensures { result ≡ list_any (λ word. bytes_eq text.now (string_bytes word)) options.now.missing.items }
 {
-    let text = text_in(fields, places, column);
-    is_blank(text) || is_number(text) || text == GAP
+    options.missing.iter().any(|word| text == word.as_str())
 }
 
-// Whether each row has a number, a blank text or `⋮` in the column.
-fn have_numbers(records: &[StringRecord], places: &[Option<usize>], column: usize) -> bool
-    ensures { result ≡ list_all (λ fields. spec.is_numeric_text (slice_index_or (fields_at places.now (fields_of fields)) column [])) records.now }
+// Whether the text of a row in this column is a number, blank, `⋮`, or counts as blank.
+fn has_number(
+    options: &Options,
+    fields: &StringRecord,
+    places: &[Option<usize>],
+    column: usize,
+) -> bool
+    ensures { result ≡ spec.is_numeric_text options.now (slice_index_or (fields_at places.now (fields_of fields.now)) column []) }
+{
+    let text = text_in(fields, places, column);
+    is_blank(text) || is_number(text) || text == GAP || is_missing(options, text)
+}
+
+// Whether each row has a number in the column, or a text that counts as blank.
+fn have_numbers(
+    options: &Options,
+    records: &[StringRecord],
+    places: &[Option<usize>],
+    column: usize,
+) -> bool
+    ensures { result ≡ list_all (λ fields. spec.is_numeric_text options.now (slice_index_or (fields_at places.now (fields_of fields)) column [])) records.now }
 {
     records
         .iter()
-        .all(|fields| has_number(fields, places, column))
+        .all(|fields| has_number(options, fields, places, column))
 }
 
-/// Whether each text of the column is a number or blank, or `⋮`.
-pub(crate) fn is_numeric(rows: LentRows<'_>, column: usize) -> bool
-    ensures { result ≡ spec.is_numeric (texts_of rows.entry) column }
+/// Whether each text of the column is a number, or counts as blank.
+pub(crate) fn is_numeric(options: &Options, rows: LentRows<'_>, column: usize) -> bool
+    ensures { result ≡ spec.is_numeric options.now (texts_of rows.entry) column }
 {
-    have_numbers(rows.records, rows.places, column)
+    have_numbers(options, rows.records, rows.places, column)
 }
 
 /// The records below a header.
@@ -50,21 +69,16 @@ pub(crate) fn body_of(has_header: bool, records: &[StringRecord]) -> &[StringRec
 }
 
 // The side of a column.
-fn side_of(
-    has_header: bool,
-    sides: &[Option<AlignmentHorizontal>],
-    rows: LentRows<'_>,
-    column: usize,
-) -> AlignmentHorizontal
-    ensures { result ≡ spec.side_of has_header sides.now (texts_of rows.entry) column }
+fn side_of(options: &Options, rows: LentRows<'_>, column: usize) -> AlignmentHorizontal
+    ensures { result ≡ spec.side_of options.now (texts_of rows.entry) column }
 {
     let body = LentRows {
-        records: body_of(has_header, rows.records),
+        records: body_of(options.has_header, rows.records),
         places: rows.places,
     };
-    match told_of(sides, column) {
+    match told_of(&options.sides, column) {
         Some(side) => side,
-        None if is_numeric(body, column) => AlignmentHorizontal::Right,
+        None if is_numeric(options, body, column) => AlignmentHorizontal::Right,
         None => AlignmentHorizontal::Left,
     }
 }
@@ -87,14 +101,13 @@ fn set_side(
 /// and left for others.
 pub(crate) fn set_sides(
     config: &mut SpannedConfig,
-    has_header: bool,
-    sides: &[Option<AlignmentHorizontal>],
+    options: &Options,
     rows: LentRows<'_>,
 ) -> Result<(), AllocError>
-    ensures { OnOk result (config.new ≡ spec.sided has_header sides.now (texts_of rows.entry) config.old) }
+    ensures { OnOk result (config.new ≡ spec.sided options.now (texts_of rows.entry) config.old) }
 {
     for column in 0..rows.count_columns() {
-        set_side(config, column, side_of(has_header, sides, rows, column))?;
+        set_side(config, column, side_of(options, rows, column))?;
     }
     Ok(())
 }

@@ -50,7 +50,7 @@ pub(crate) fn sided_config(
     ensures { IfOk result (λ config. config ≡ sided_config options.now (texts_of rows.entry)) }
 {
     let mut config = look_config(alloc, options.look)?;
-    set_sides(&mut config, options.has_header, &options.sides, rows)?;
+    set_sides(&mut config, options, rows)?;
     Ok(config)
 }
 

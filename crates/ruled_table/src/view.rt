@@ -1,6 +1,6 @@
-//! The rows that are shown.
+//! The rows that are shown, and the line below them.
 
-ghost use Rattle.std.specs.Prelude.{◌≡◌, map, IfOk};
+ghost use Rattle.std.specs.Prelude.{◌≡◌, map, string_bytes, IfOk};
 ghost use Rattle.csv.specs.Records.{fields_of};
 ghost use Rattle.ruled_table.specs.Columns.{column_fault};
 ghost use Rattle.ruled_table.specs.Faults.{Tells};
@@ -11,23 +11,65 @@ use crate::columns::places_of;
 use crate::fault::ViewFault;
 use crate::options::Options;
 use crate::rows::{ends, heads, tails};
+use crate::sides::body_of;
 use csv::StringRecord;
-use std::alloc::Global;
+use std::alloc::{AllocError, Global};
+
+/// The rows that are shown of an input.
+#[derive(Drop)]
+pub struct Chosen {
+    /// The rows, of which the first is row 0.
+    pub rows: Vec<StringRecord>,
+    /// The line below their table that counts rows and columns, with a line feed, or nothing.
+    pub count: String,
+}
+
+// What a word for several ends with.
+fn plural(count: usize) -> &'static str
+    ensures { result.now ≡ spec.plural count }
+{
+    if count == 1 { "" } else { "s" }
+}
+
+// So many rows and columns, and a line feed.
+fn count_of(alloc: Global, rows: usize, columns: usize) -> Result<String, AllocError>
+    ensures { IfOk result (λ text. string_bytes text ≡ spec.count_of rows columns) }
+{
+    let (row_end, column_end) = (plural(rows), plural(columns));
+    format!(in alloc; "{rows} row{row_end}, {columns} column{column_end}\n")
+}
+
+// The line below a table with rows of an input, of which so many columns are asked for.
+fn count_text(
+    alloc: Global,
+    options: &Options,
+    rows: &[StringRecord],
+    columns: usize,
+) -> Result<String, AllocError>
+    ensures { IfOk result (λ text. string_bytes text ≡ spec.count_by options.now (map fields_of rows.now) columns) }
+{
+    if !options.is_counting {
+        return Ok(String::new(alloc));
+    }
+    count_of(alloc, body_of(options.has_header, rows).len(), columns)
+}
 
 /// The rows that are shown of these, of which the first is row 0.
 ///
-/// The fault is the first name of a column that row 0 lacks, whether rows are shown or not, or out
-/// of memory.
+/// The fault is the word for a column that is wrong, whether rows are shown or not, or out of memory.
 pub fn chosen_rows(
     alloc: Global,
     options: &Options,
     rows: Vec<StringRecord>,
-) -> Result<Vec<StringRecord>, ViewFault>
-    ensures rows { IfOk result (λ shown. map fields_of shown.items ≡ spec.chosen_rows options.now (map fields_of rows.items)) }
+) -> Result<Chosen, ViewFault>
+    ensures rows { IfOk result (λ chosen. map fields_of chosen.rows.items ≡ spec.chosen_rows options.now (map fields_of rows.items)) }
+    ensures count { IfOk result (λ chosen. string_bytes chosen.count ≡ spec.count_text options.now (map fields_of rows.items)) }
     ensures fault { Tells (column_fault options.now.columns.items (spec.arranged options.now (map fields_of rows.items))) result }
 {
     let rows = arranged(alloc, options, rows)?;
-    let _places = places_of(alloc, &options.columns, &rows)?;
-    let shown = tails(options, heads(options, rows));
-    ends(alloc, options, shown).map_err(ViewFault::from)
+    let columns = places_of(alloc, &options.columns, &rows)?.len();
+    let rows = heads(options, rows);
+    let count = count_text(alloc, options, &rows, columns)?;
+    let rows = ends(alloc, options, tails(options, rows))?;
+    Ok(Chosen { rows, count })
 }

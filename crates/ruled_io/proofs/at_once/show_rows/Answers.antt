@@ -1,41 +1,47 @@
-use Rattle.std.proofs.Common.{◌≡◌, ◌∙◌, List, Option, None, map, refl, sym, ap, false, true, rules}
+use Rattle.std.proofs.Common.{◌≡◌, ◌∙◌, ◌++◌, List, Option, map, sym, ap, subst}
 use Rattle.std.specs.Option.{option_or}
+use Rattle.std.specs.Io.KnownBytes.{Appends}
 use Rattle.csv.specs.Records.{fields_of}
 use Rattle.pg_layout.specs.Text.{Text}
-use Rattle.ruled_table.specs.Blocks.{blocks_fault, blocks_text}
-use Rattle.ruled_table.specs.Columns.{column_fault}
-use Rattle.ruled_table.specs.Arranged.{chosen_rows}
-use Rattle.ruled_table.specs.View.{all_fault, all_text, table_fault, table_text, whole_fault, whole_table}
+use Rattle.ruled_table.specs.Arranged.{chosen_rows, count_text}
+use Rattle.ruled_table.specs.View.{all_fault, all_text, table_fault, table_text}
 use Rattle.ruled_table.specs.declared.fault.ViewFault.{ViewFault}
-use Rattle.ruled_io.proofs.AtOnce.{chosen-named, shown-draws, view-draws}
+use Rattle.ruled_io.proofs.AtOnce.{chosen-named, draws-behind, draws-handed, same-draws, view-draws, wrong-shown}
 use Rattle.ruled_io.proofs.at_once.show_rows.Goals as goal
 
-pub returns-in_err-rows-clause-draws : goal.returns-in_err-rows-clause-draws
-returns-in_err-rows-clause-draws g c =
+pub returns-in_err-chosen-clause-draws : goal.returns-in_err-chosen-clause-draws
+returns-in_err-chosen-clause-draws g c =
     let all : List (List Text) = map fields_of c.args.rows.items in
     let options = c.args.options.now in
-    view-draws (table_text options all) (table_fault options all) (g.W.Write.contents c.args.out.now.writer) c.in_err-rows.field-0.0 c.from_residual.result
-    (λ kept. ap (λ (w : Option ViewFault). option_or w (all_fault options (chosen_rows options all))) (c.in_err-rows.ensures.fault kept)) c.from_residual.ensures.1
+    view-draws (table_text options all) (table_fault options all) (g.W.Write.contents c.args.out.now.writer) c.in_err-chosen.field-0.0 c.from_residual-in_err-chosen.result
+    (λ kept. ap (λ (w : Option ViewFault). option_or w (all_fault options (chosen_rows options all))) (c.in_err-chosen.ensures.fault kept)) c.from_residual-in_err-chosen.ensures.1
 
-pub returns-then-options-clause-draws : goal.returns-then-options-clause-draws
-returns-then-options-clause-draws g c =
+pub returns-in_err-show_chosen-clause-draws : goal.returns-in_err-show_chosen-clause-draws
+returns-in_err-show_chosen-clause-draws g c =
     let all : List (List Text) = map fields_of c.args.rows.items in
-    let rows : List (List Text) = map fields_of c.deref.result.now in
+    let rows : List (List Text) = map fields_of c.in_ok-chosen.chosen.rows.items in
     let options = c.args.options.now in
-    let are : rows ≡ chosen_rows options all = ap (map fields_of) c.deref.ensures.value ∙ c.in_ok-rows.ensures.rows in
-    let vertical : options.is_vertical ≡ true = search rules in
-    let text : blocks_text options rows ≡ all_text options rows = rw vertical refl in
-    let wrong : blocks_fault options rows ≡ all_fault options rows = rw vertical refl in
-    shown-draws options all rows (blocks_text options rows) (blocks_fault options rows) (g.W.Write.contents c.args.out.now.writer) (g.W.Write.contents c.show_blocks.new.out.writer) c.show_blocks.result
-    are c.in_ok-rows.ensures.fault text wrong (c.show_blocks.ensures.draws (chosen-named options all rows are c.in_ok-rows.ensures.fault))
+    let old = g.W.Write.contents c.args.out.now.writer in
+    let mid = g.W.Write.contents c.show_chosen.new.out.writer in
+    let are : rows ≡ chosen_rows options all = c.in_ok-chosen.ensures.rows in
+    let named = c.in_ok-chosen.ensures.fault in
+    let count : Text = count_text options all in
+    let drawn = draws-handed (all_text options rows) count (all_fault options rows) old mid c.in_err-show_chosen.field-0.0 c.from_residual-in_err-show_chosen.result
+    (c.in_err-show_chosen.ensures.draws (chosen-named options all rows are named)) c.from_residual-in_err-show_chosen.ensures.1 in
+    same-draws (all_text options rows ++ count) (table_text options all) (all_fault options rows) (table_fault options all) old mid c.from_residual-in_err-show_chosen.result
+    (ap (λ (t : Text). t ++ count) (ap (all_text options) are)) (wrong-shown options all rows are named) drawn
 
 pub returns-clause-draws : goal.returns-clause-draws
 returns-clause-draws g c =
     let all : List (List Text) = map fields_of c.args.rows.items in
-    let rows : List (List Text) = map fields_of c.in_ok-rows.rows.items in
+    let rows : List (List Text) = map fields_of c.in_ok-chosen.chosen.rows.items in
     let options = c.args.options.now in
-    let flat : options.is_vertical ≡ false = search rules in
-    let text : whole_table options rows ≡ all_text options rows = rw flat refl in
-    let wrong : whole_fault options rows ≡ all_fault options rows = rw flat refl in
-    shown-draws options all rows (whole_table options rows) (whole_fault options rows) (g.W.Write.contents c.args.out.now.writer) (g.W.Write.contents c.show_whole.new.out.writer) c.show_whole.result
-    c.in_ok-rows.ensures.rows c.in_ok-rows.ensures.fault text wrong c.show_whole.ensures.draws
+    let old = g.W.Write.contents c.args.out.now.writer in
+    let mid = g.W.Write.contents c.show_chosen.new.out.writer in
+    let new = g.W.Write.contents c.write.new.self.writer in
+    let are : rows ≡ chosen_rows options all = c.in_ok-chosen.ensures.rows in
+    let named = c.in_ok-chosen.ensures.fault in
+    let (fine, drawn) = c.in_ok-show_chosen.ensures.draws (chosen-named options all rows are named) in
+    let count : c.as_bytes.result.now ≡ count_text options all = c.as_bytes.ensures.value ∙ c.in_ok-chosen.ensures.count in
+    draws-behind (all_text options (chosen_rows options all)) (count_text options all) c.as_bytes.result.now (table_fault options all) old mid new c.write.result
+    (sym (wrong-shown options all rows are named) ∙ fine) (subst (Appends old mid) (ap (all_text options) are) drawn) count c.write.ensures.written c.write.ensures.begun c.write.ensures.failed

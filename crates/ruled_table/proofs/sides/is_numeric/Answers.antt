@@ -8,4 +8,4 @@ use Rattle.ruled_table.proofs.sides.is_numeric.Goals as goal
 pub returns : goal.returns
 returns c =
     c.have_numbers.ensures
-    ∙ sym (list_all-map (λ (row : List (List ℕ)). is_numeric_text (slice_index_or row c.args.column [])) (λ fields. fields_at c.args.rows.places.now (fields_of fields)) c.args.rows.records.now)
+    ∙ sym (list_all-map (λ (row : List (List ℕ)). is_numeric_text c.args.options.now (slice_index_or row c.args.column [])) (λ fields. fields_at c.args.rows.places.now (fields_of fields)) c.args.rows.records.now)

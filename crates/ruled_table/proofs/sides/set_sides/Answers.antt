@@ -11,7 +11,7 @@ pub loop-column-preserved : goal.loop-column-preserved
 loop-column-preserved c =
     let column = c.loop-column.column in
     let given = c.args.config.now in
-    let side : ℕ → AlignmentHorizontal = side_of c.args.has_header c.args.sides.now (texts_of c.args.rows) in
+    let side : ℕ → AlignmentHorizontal = side_of c.args.options.now (texts_of c.args.rows) in
     let set : AlignmentHorizontal → Config → Config = λ at config. record config { alignment_horizontal = with_side column at config.alignment_horizontal } in
     c.in_ok-set_side.ensures
     ∙ ap (λ (at : AlignmentHorizontal). set at c.loop-column.config) c.side_of.ensures

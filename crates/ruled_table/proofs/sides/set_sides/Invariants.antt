@@ -5,4 +5,4 @@ use Rattle.ruled_table.proofs.sides.set_sides.Given as goal
 
 abbrev pub invariant-loop-column : goal.invariant-loop-column
 invariant-loop-column l =
-    l.config ≡ record l.fn.config { alignment_horizontal = with_sides (side_of l.fn.has_header l.fn.sides (texts_of l.fn.rows)) l.column l.fn.config.alignment_horizontal }
+    l.config ≡ record l.fn.config { alignment_horizontal = with_sides (side_of l.fn.options (texts_of l.fn.rows)) l.column l.fn.config.alignment_horizontal }

@@ -1,4 +1,4 @@
-use Rattle.std.proofs.Common.{◌≡◌, ◌∙◌, ap, rules}
+use Rattle.std.proofs.Common.{◌∙◌, ap}
 use Rattle.pg_layout.specs.Records.{columns_of}
 use Rattle.pg_config.specs.Config.{Config}
 use Rattle.ruled_table.specs.LentRows.{texts_of}
@@ -9,6 +9,5 @@ pub returns : goal.returns
 returns c =
     let options = c.args.options.now in
     let rows = c.args.rows in
-    let sides : c.deref.result.now ≡ options.sides.items = search rules in
-    let set : Config → Config = λ config. record config { alignment_horizontal = with_sides (side_of options.has_header options.sides.items (texts_of rows)) (columns_of (texts_of rows)) config.alignment_horizontal } in
-    (rw sides at c.in_ok-set_sides.ensures) ∙ ap set c.in_ok-config.ensures
+    let set : Config → Config = λ config. record config { alignment_horizontal = with_sides (side_of options (texts_of rows)) (columns_of (texts_of rows)) config.alignment_horizontal } in
+    c.in_ok-set_sides.ensures ∙ ap set c.in_ok-config.ensures
