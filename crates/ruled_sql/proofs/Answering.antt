@@ -53,28 +53,28 @@ named_as : (known : Result Compiled CompileError) (c : Compiled) (it : Outline) 
 named_as known c it is outlines = let known : Outlines (Ok c) it = subst (λ k. Outlines k it) is outlines in known.2
 
 module _ (query : List ℕ) (old mid new : State) (rows : List Row) where
-  shows : Opens old → old.step_limit ≡ None → IsUnchanged old mid → mid.step_limit ≡ old.step_limit → new.changes ≡ 0 → (c : Compiled) (params : Row) (returning : Option Returning)
+  shows : old.changes ≡ 0 → old.step_limit ≡ None → IsUnchanged old mid → mid.step_limit ≡ old.step_limit → new.changes ≡ 0 → (c : Compiled) (params : Row) (returning : Option Returning)
       → ShowsRows mid new query c params rows returning → Shows query old.now c params rows returning
-  shows opens unlimited same limit none c params None h =
+  shows uncounted unlimited same limit none c params None h =
       (h.0, subst (λ (db : Database). IsSourceOf (reads_listing db.schema query) db h.0) same.0.now_is h.1, h.2)
-  shows opens unlimited same limit none c params (Some what) h =
+  shows uncounted unlimited same limit none c params (Some what) h =
       let w = h.1 in
-      let before : mid.changes ≡ 0 = same.1.changes ∙ opens.uncounted.0 in
+      let before : mid.changes ≡ 0 = same.1.changes ∙ uncounted in
       let counted : unwrap_or w.tally.rows 0 ≡ 0 = ap (unwrap_or w.tally.rows) (sym before) ∙ sym w.changes ∙ none in
       let changed = subst₂ (λ (most : Option ℕ) (db : Database). Does most (mode_of mid) params db (text_of query c) (Some what) c.command (Ok (w.tally, new.now))) (limit ∙ unlimited) same.0.now_is w.changed in
       (w.tally, new.now, changed, counted, h.2)
 
-  pub answers : (it : Outline) → Opens old → old.step_limit ≡ None → IsUnchanged old mid → mid.step_limit ≡ old.step_limit → it.text ≡ query → Outlines (understood old.now.schema query) it
+  pub answers : (it : Outline) → old.changes ≡ 0 → old.step_limit ≡ None → IsUnchanged old mid → mid.step_limit ≡ old.step_limit → it.text ≡ query → Outlines (understood old.now.schema query) it
       → Shown it.text [] mid new rows → new.changes ≡ 0 → IsAnswer query old.now it.columns rows
   unfolding Shown
-  answers it opens unlimited same limit text outlines shown none =
+  answers it uncounted unlimited same limit text outlines shown none =
       let h = subst (λ (sql : List ℕ). Shown sql [] mid new rows) text shown in
       let is : understood old.now.schema query ≡ Ok h.0 = subst (λ (db : Database). understood db.schema query ≡ Ok h.0) same.0.now_is h.1.is in
       record {
         statement = h.0;
         means = record { is = is; whole = h.1.whole; bare = sym h.1.given };
         time = h.1.now;
-        shows = shows opens unlimited same limit none h.0 _ h.0.returning h.2;
+        shows = shows uncounted unlimited same limit none h.0 _ h.0.returning h.2;
         named = named_as (understood old.now.schema query) h.0 it is outlines;
       }
 

@@ -18,7 +18,6 @@ use Rattle.sqlite.specs.declared.file.Leftover.{Leftover}
 use Rattle.sqlite.specs.declared.file.Leftover.TheVariants as left
 use Rattle.ruled_sql.specs.Answers.{HoldsNone}
 use Rattle.ruled_sql.specs.declared.fault.SqlFault.{SqlFault}
-use Rattle.ruled_sql.specs.declared.fault.SqlFault.TheVariants.{Database}
 
 -- whether an error says that files are no database
 abbrev says_none : Error → Bool
@@ -59,6 +58,6 @@ none_held clean both bytes rest error empty is fails says = λ trees held.
     not_wanted _ _ _ _ _ refused (inl (trees, subst₂ (λ (l d : List ℕ). HoldsDatabase (record { log = l; db = d }) trees) (sym empty) (sym is) held))
 
 -- a fault that is handed on
-pub handed_on : {X : Type 0} (result : Result X SqlFault) (found : SqlFault) → IsErrAnd result (λ fault. fault ≡ found) → result ≡ Err Database → found ≡ Database
-handed_on (Ok x) found told is = absurd told
-handed_on (Err fault) found told is = cc
+pub handed_on : {X : Type 0} (kind : SqlFault) (result : Result X SqlFault) (found : SqlFault) → IsErrAnd result (λ fault. fault ≡ found) → result ≡ Err kind → found ≡ kind
+handed_on kind (Ok x) found told is = absurd told
+handed_on kind (Err fault) found told is = let same : fault ≡ kind = cc in sym told ∙ same

@@ -4,7 +4,7 @@ ghost use Rattle.std.specs.Prelude.{◌≡◌, None, Err, IfOk, IsTrue};
 ghost use Rattle.sqlite.specs.Files.{IsOpened, file_state};
 ghost use Rattle.sqlite.specs.Held.{IsNew, state};
 ghost use Rattle.sqlite.specs.Start.{FindsIn};
-ghost use Rattle.sqlite.specs.State.{HasCleanDisk, Opens};
+ghost use Rattle.sqlite.specs.State.{HasCleanDisk};
 ghost use Rattle.sqlite.specs.declared.error.Error.TheVariants.{SqliteFailure};
 ghost use Rattle.sqlite.specs.declared.error.ErrorCode.TheVariants.{NotADatabase};
 ghost use Rattle.sqlite_disk.specs.Memory.{memory_bytes, memory_is_usable};
@@ -77,12 +77,12 @@ pub(crate) struct Answer {
     pub(crate) rows: Vec<Row>,
 }
 
-/// What a query answers over a connection that was just opened.
+/// What a query answers over a connection that counts no changed row.
 pub(crate) fn answer_of<S: Alter>(
     connection: &mut Connection<S>,
     query: &str,
 ) -> Result<Answer, QueryFault>
-    ensures { HasCleanDisk (state S.Store connection.new) → Opens (state S.Store connection.old) → connection.old.step_limit ≡ None
+    ensures { HasCleanDisk (state S.Store connection.new) → connection.old.changes ≡ 0 → connection.old.step_limit ≡ None
         → IfOk result (λ it. IsAnswer query.now (state S.Store connection.old).now it.statement.columns it.rows.items) }
 {
     let statement = connection.prepare(query)?;

@@ -3,9 +3,11 @@
 ghost use Rattle.std.specs.Prelude.{◌≡◌};
 ghost use Rattle.ruled_sql.specs.Words.{query_fault_text, sql_fault_text};
 ghost use Rattle.ruled_sql.specs.declared.fault.QueryFault.{QueryFault};
+ghost use Rattle.ruled_sql.specs.declared.fault.SqlFault.{SqlFault};
 ghost use Rattle.ruled_sql.specs.declared.fault.SqlFault.TheVariants.{Query};
 
 use sqlite::{Error, ErrorCode};
+use sqlite_resolve::CompileError;
 use std::alloc::{AllocError, AllocFailed};
 use std::fmt;
 use std::fmt::Display;
@@ -30,6 +32,12 @@ pub enum SqlFault {
     Database,
     /// The database is damaged, or of an unsupported kind.
     Damage,
+    /// There is no row 0 that names the columns of a table.
+    NoRows,
+    /// The names of row 0 can't be those of the columns of one table, as this error says.
+    Columns(Error),
+    /// The query names another table than that of the rows.
+    NoTable,
     /// The query has none.
     Query(QueryFault),
     /// Out of memory, before the query was read.
@@ -49,6 +57,14 @@ impl<T: Drop> From<AllocFailed<T>> for QueryFault {
 
     fn from(_error: AllocFailed<T>) -> QueryFault {
         QueryFault::Memory
+    }
+}
+
+impl From<AllocError> for SqlFault {
+    ghost from_gives = { λ _ fault. fault ≡ SqlFault.Memory };
+
+    fn from(_error: AllocError) -> SqlFault {
+        SqlFault::Memory
     }
 }
 
@@ -99,6 +115,12 @@ impl Display for SqlFault {
                 "not an SQLite database, or it is encrypted or of an unsupported kind"
             }
             SqlFault::Damage => "the database is damaged, or of an unsupported kind",
+            SqlFault::NoRows => "there is no row 0, so there is no table",
+            SqlFault::Columns(Error::SqlInputError(CompileError::Exists)) => {
+                "two columns have one name, whose case doesn't count"
+            }
+            SqlFault::Columns(error) => return write!(f, "the columns make no table: {error}"),
+            SqlFault::NoTable => "no such table",
             SqlFault::Query(fault) => return fault.fmt(f),
             SqlFault::Memory => "out of memory",
         };

@@ -1,10 +1,13 @@
-//! The rows that a query reads from an SQLite database, over a copy of its bytes in memory. No file is opened, locked or
-//! changed.
+//! The rows that a query reads from an SQLite database, over a copy of its bytes in memory, or from a table of rows. No
+//! file is opened, locked or changed.
 #![tactic(auto)]
 
 mod database;
 mod fault;
+mod filled;
+mod number;
 mod rows;
+mod statements;
 
 pub use crate::fault::{QueryFault, SqlFault};
-pub use crate::rows::query_rows;
+pub use crate::rows::{query_rows, query_table};

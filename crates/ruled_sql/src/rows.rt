@@ -1,16 +1,20 @@
 //! The rows of an answer, as texts.
 
-ghost use Rattle.std.specs.Prelude.{◌≡◌, map, Err, IfOk};
+ghost use Rattle.std.specs.Prelude.{◌≡◌, ◌≢◌, [], map, Err, IfOk};
 ghost use Rattle.csv.specs.Records.{fields_of};
 ghost use Rattle.ruled_database.specs.Values.{shown_text};
 ghost use Rattle.ruled_sql.specs.Answers.{AreAnswered, HoldsNone, shown_rows};
-ghost use Rattle.ruled_sql.specs.declared.fault.SqlFault.TheVariants.{Database};
+ghost use Rattle.ruled_sql.specs.Filled.{AreQueried};
+ghost use Rattle.ruled_sql.specs.declared.fault.SqlFault.TheVariants.{Database, NoRows};
 
 use crate::database::{answer_of, open};
 use crate::fault::{QueryFault, SqlFault};
+use crate::filled::{filled, name_for};
+use crate::statements::columns_text;
 use csv::{ByteRecord, StringRecord};
 use ruled_database::push_value;
-use sqlite::Row;
+use sqlite::{Error, Row};
+use sqlite_resolve::CompileError;
 use sqlite_value::value::Bytes;
 use std::alloc::Global;
 
@@ -73,5 +77,44 @@ pub fn query_rows(alloc: Global, bytes: &[u8], query: &str) -> Result<Vec<String
     let mut connection = open(alloc, bytes)?;
     let answer = answer_of(&mut connection, query)?;
     let rows = rows_in(alloc, answer.statement.column_names(), &answer.rows)?;
+    Ok(rows)
+}
+
+// Why a query of one table has no rows.
+fn fault_of_table(fault: QueryFault) -> SqlFault
+    ensures { result ≢ NoRows }
+{
+    match fault {
+        QueryFault::Refused(Error::SqlInputError(CompileError::NoSuchTable)) => SqlFault::NoTable,
+        _ => SqlFault::Query(fault),
+    }
+}
+
+/// The rows that a query answers of a table of rows, with the names of its columns as row 0, as those of the columns of the
+/// table are.
+///
+/// The table has this name, or is called `input` where the query names no such table. A column without a name has its
+/// number behind `column`. Values are NULL for empty fields, numbers in a column that has nothing else, and texts in
+/// others. The query is one as for [`query_rows`].
+pub fn query_table(
+    alloc: Global,
+    name: &str,
+    rows: &[StringRecord],
+    query: &str,
+) -> Result<Vec<StringRecord>, SqlFault>
+    ensures rows { IfOk result (λ answer. AreQueried name.now (map fields_of rows.now) query.now (map fields_of answer.items)) }
+    ensures none { result ≡ Err NoRows → rows.now ≡ [] }
+{
+    let [names, records @ ..] = rows else {
+        return Err(SqlFault::NoRows);
+    };
+    let columns = columns_text(alloc, names, records)?;
+    let called = name_for(alloc, name, columns.as_str(), query)?;
+    let mut connection = filled(alloc, called, columns.as_str(), names.len(), records)?;
+    let found = match answer_of(&mut connection, query) {
+        Ok(found) => found,
+        Err(fault) => return Err(fault_of_table(fault)),
+    };
+    let rows = rows_in(alloc, found.statement.column_names(), &found.rows)?;
     Ok(rows)
 }

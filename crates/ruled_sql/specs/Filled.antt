@@ -1,0 +1,160 @@
+-- The database that a table of rows fills, and the rows that a query reads from it.
+use Rattle.std.specs.Prelude.{◌≡◌, ◌⊎◌, ℕ, ◌+◌, ◌-◌, ◌==◌, ◌&&◌, ◌||◌, not, nat_le, nat_lt, Bool, true, false, List, [], ◌∷◌, ◌++◌, length, map, take, drop, position, nat_eq, slice_index_or, codes, decimal, chars, Option, Some, None, Ok, if◌then◌else◌}
+use Rattle.std.specs.Char.{encode_utf8}
+use Rattle.std.specs.Cmp.Lexicographic.{pointwise}
+use Rattle.std.specs.Int.{is_in_range}
+use Rattle.std.specs.List.{flat_map, join_by, list_all, range_with_len, repeat}
+use Rattle.csv.specs.Records.{field_at}
+use Rattle.sqlite_value.specs.Order.{Row}
+use Rattle.sqlite_value.specs.declared.value.Value.{Value}
+use Rattle.sqlite_value.specs.declared.value.Value.TheVariants.{Null, Text}
+use Rattle.sqlite_trees.specs.declared.memory.MemStore.{MemStore}
+use Rattle.sqlite.specs.Held.{Held, IsNew, state}
+use Rattle.sqlite.specs.State.{Executes}
+use Rattle.sqlite.specs.Steps.{IsEmpty, over_memory}
+use Rattle.ruled_sql.specs.Answers.{IsAnswer, shown_rows}
+
+-- ---- numbers
+
+abbrev pub is_digit : ℕ → Bool
+is_digit byte = is_in_range 48 57 byte
+
+-- digits, at least one
+abbrev pub are_digits : List ℕ → Bool
+are_digits text = not (length text == 0) && list_all is_digit text
+
+-- a zero in front of others
+abbrev pub is_padded : List ℕ → Bool
+is_padded text = nat_lt 1 (length text) && (slice_index_or text 0 0 == 48)
+
+-- at most 18 digits, and no zero in front of others
+abbrev pub is_whole : List ℕ → Bool
+is_whole text = nat_le (length text) 18 && (not (is_padded text) && are_digits text)
+
+-- a whole number, perhaps with digits behind a point
+abbrev pub is_decimal_by : Option ℕ → List ℕ → Bool
+is_decimal_by None text = is_whole text
+is_decimal_by (Some point) text = is_whole (take point text) && are_digits (drop (point + 1) text)
+
+abbrev pub is_decimal : List ℕ → Bool
+is_decimal text = is_decimal_by (position (λ byte. byte == 46) text) text
+
+-- what stands behind this front, or else these bytes
+abbrev pub behind_front : List ℕ → List ℕ → List ℕ → List ℕ
+behind_front front text others = if pointwise nat_eq (take (length front) text) front then drop (length front) text else others
+
+-- without a minus at its front, or without either sign
+abbrev pub without_minus : List ℕ → List ℕ
+without_minus text = behind_front (45 ∷ []) text text
+
+abbrev pub unsigned : List ℕ → List ℕ
+unsigned text = behind_front (43 ∷ []) text (without_minus text)
+
+-- a decimal number, perhaps with a power of ten behind an `e`
+abbrev pub is_scaled_by : Option ℕ → List ℕ → Bool
+is_scaled_by None text = is_decimal text
+is_scaled_by (Some mark) text = is_decimal (take mark text) && are_digits (unsigned (drop (mark + 1) text))
+
+abbrev pub is_scaled : List ℕ → Bool
+is_scaled text = is_scaled_by (position (λ byte. (byte == 101) || (byte == 69)) text) text
+
+-- a number is written as in JSON, with at most 18 digits in front of the point
+unfoldable pub is_number : List ℕ → Bool
+is_number text = is_scaled (without_minus text)
+
+-- ---- columns
+
+-- a number, or nothing
+abbrev pub may_be_number : Option (List ℕ) → Bool
+may_be_number None = true
+may_be_number (Some text) = (length text == 0) || is_number text
+
+-- the fields at this place are numbers, where they aren't empty
+abbrev pub are_numbers : List (List (List ℕ)) → ℕ → Bool
+are_numbers records place = list_all (λ fields. may_be_number (field_at fields place)) records
+
+-- a name in double quotes, where each of these in it is doubled
+abbrev pub quote_of : ℕ → List ℕ
+quote_of c = if c == 34 then codes "\"\"" else encode_utf8 c
+
+unfoldable pub doubled : List ℕ → List ℕ
+doubled name = flat_map quote_of (chars name)
+
+abbrev pub quoted : List ℕ → List ℕ
+quoted name = codes "\"" ++ (doubled name ++ codes "\"")
+
+-- the name of a column: where it is empty, its number stands for it
+abbrev pub column_name : List (List ℕ) → ℕ → List ℕ
+column_name names place = if length (slice_index_or names place []) == 0 then codes "column" ++ decimal (place + 1) else slice_index_or names place []
+
+abbrev pub column_text : List (List ℕ) → List (List (List ℕ)) → ℕ → List ℕ
+column_text names records place = quoted (column_name names place) ++ (codes " " ++ (if are_numbers records place then codes "NUMERIC" else codes "TEXT"))
+
+-- ---- statements
+
+abbrev pub columns_text : List (List ℕ) → List (List (List ℕ)) → List ℕ
+columns_text names records = join_by (column_text names records) (codes ", ") (range_with_len 0 (length names))
+
+abbrev pub create_text : List ℕ → List ℕ → List ℕ
+create_text table columns = codes "CREATE TABLE " ++ (quoted table ++ (codes " (" ++ (columns ++ codes ")")))
+
+abbrev pub insert_text : List ℕ → ℕ → List ℕ
+insert_text table count = codes "INSERT INTO " ++ (quoted table ++ (codes " VALUES (" ++ (repeat (count - 1) (codes "?, ") ++ codes "?)")))
+
+-- no row is deleted, and none counts as changed
+abbrev pub settle_text : List ℕ → List ℕ
+settle_text table = codes "DELETE FROM " ++ (quoted table ++ codes " WHERE 0")
+
+-- an empty field is NULL
+abbrev pub value_of : List ℕ → Value
+value_of text = if length text == 0 then Null else Text text
+
+-- a statement with its parameters
+abbrev pub Step : Type 0
+Step = List ℕ × Row
+
+-- so many values of a row: those of its fields, and NULL where it has none
+abbrev pub values_of : ℕ → List (List ℕ) → Row
+values_of count fields = map (λ place. value_of (slice_index_or fields place [])) (range_with_len 0 count)
+
+abbrev pub insertions : List ℕ → ℕ → List (List (List ℕ)) → List Step
+insertions text count records = map (λ fields. (text, values_of count fields)) records
+
+-- the statements that make a table and fill it
+abbrev pub filling : List ℕ → List ℕ → ℕ → List (List (List ℕ)) → List Step
+filling table columns count records = (create_text table columns, []) ∷ (insertions (insert_text table count) count records ++ (settle_text table, []) ∷ [])
+
+-- those for rows, of which row 0 has the names of the columns
+abbrev pub steps : List ℕ → List (List (List ℕ)) → List Step
+steps table [] = []
+steps table (names ∷ records) = filling table (columns_text names records) (length names) records
+
+-- ---- the database
+
+abbrev pub IsRun : Step → Held MemStore → Held MemStore → Type 0
+IsRun step old new = (count : ℕ) × Executes step.0 step.1 (state over_memory old) (state over_memory new) (Ok count)
+
+-- each in turn
+abbrev pub AreRun : List Step → Held MemStore → Held MemStore → Type 0
+AreRun [] old new = new ≡ old
+AreRun (step ∷ others) old new = (mid : Held MemStore) × IsRun step old mid × AreRun others mid new
+
+-- nothing has been done to it
+pub record IsBlank (connection : Held MemStore) : Type 0 where
+  pub empty : IsEmpty (state over_memory connection)
+  pub new : IsNew connection
+
+-- the steps lead to it from an empty database
+abbrev pub IsFilled : List Step → Held MemStore → Type 0
+IsFilled all connection = (blank : Held MemStore) × IsBlank blank × AreRun all blank connection
+
+-- the rows that a query answers of a table of rows, which has this name or is called `input`
+pub record AreQueried (name : List ℕ) (table : List (List (List ℕ))) (query : List ℕ) (rows : List (List (List ℕ))) : Type 0 where
+  pub called : List ℕ
+  pub either : (called ≡ name) ⊎ (called ≡ codes "input")
+  pub connection : Held MemStore
+  pub filled : IsFilled (steps called table) connection
+  pub names : List (List ℕ)
+  pub answer : List Row
+  pub is : IsAnswer query (state over_memory connection).now names answer
+  pub shown : rows ≡ shown_rows names answer

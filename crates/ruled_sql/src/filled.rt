@@ -1,0 +1,165 @@
+//! A database that rows fill.
+
+ghost use Rattle.std.specs.Prelude.{◌≡◌, ◌≢◌, ◌⊎◌, [], ◌∷◌, codes, map, None, IfErr, IfOk, OnOk};
+ghost use Rattle.csv.specs.Records.{fields_of};
+ghost use Rattle.sqlite.specs.Values.{bound, bound_value};
+ghost use Rattle.sqlite_value.specs.Value.{owned};
+ghost use Rattle.ruled_sql.specs.Filled as spec;
+ghost use Rattle.ruled_sql.specs.declared.fault.SqlFault.{SqlFault};
+
+use crate::fault::{QueryFault, SqlFault};
+use crate::statements::{columns_text, create_text, field_at, insert_text, settle_text};
+use csv::StringRecord;
+use sqlite::{Connection, Error};
+use sqlite_resolve::CompileError;
+use sqlite_trees::memory::MemStore;
+use sqlite_value::value::ValueRef;
+use std::alloc::{AllocError, Global};
+
+// The value of a field.
+fn value_of(text: &str) -> ValueRef<'_>
+    ensures { bound_value (owned result) ≡ spec.value_of text.now }
+{
+    if text.is_empty() {
+        ValueRef::Null
+    } else {
+        ValueRef::Text(text.as_bytes())
+    }
+}
+
+// So many values of a row: those of its fields, and NULL where it has none.
+fn values_of<'a>(
+    alloc: Global,
+    fields: &'a StringRecord,
+    count: usize,
+) -> Result<Vec<ValueRef<'a>>, AllocError>
+    ensures { IfOk result (λ values. bound values.items ≡ spec.values_of count (fields_of fields.now)) }
+{
+    let mut values = Vec::new(alloc);
+    for place in 0..count {
+        values.push(value_of(field_at(fields, place)))?;
+    }
+    Ok(values)
+}
+
+// Runs a statement with these values.
+fn run(
+    connection: &mut Connection<MemStore>,
+    text: &str,
+    values: &[ValueRef<'_>],
+) -> Result<(), Error>
+    ensures runs { OnOk result (spec.IsRun (text.now, bound values.now) connection.old connection.new) }
+    ensures limit { connection.new.step_limit ≡ connection.old.step_limit }
+{
+    connection.execute(text, values)?;
+    Ok(())
+}
+
+// Puts a row into a table.
+fn insert_row(
+    alloc: Global,
+    connection: &mut Connection<MemStore>,
+    text: &str,
+    count: usize,
+    fields: &StringRecord,
+) -> Result<(), QueryFault>
+    ensures runs { OnOk result (spec.IsRun (text.now, spec.values_of count (fields_of fields.now)) connection.old connection.new) }
+    ensures limit { connection.new.step_limit ≡ connection.old.step_limit }
+{
+    let values = values_of(alloc, fields, count)?;
+    run(connection, text, &values)?;
+    Ok(())
+}
+
+// Puts rows into a table.
+fn insert_rows(
+    alloc: Global,
+    connection: &mut Connection<MemStore>,
+    text: &str,
+    count: usize,
+    records: &[StringRecord],
+) -> Result<(), QueryFault>
+    ensures runs { OnOk result (spec.AreRun (spec.insertions text.now count (map fields_of records.now)) connection.old connection.new) }
+    ensures limit { connection.new.step_limit ≡ connection.old.step_limit }
+{
+    for fields in records {
+        insert_row(alloc, connection, text, count, fields)?;
+    }
+    Ok(())
+}
+
+// Why a table of these columns can't be made.
+fn fault_of(error: Error) -> SqlFault
+    ensures { result ≢ SqlFault.NoRows }
+{
+    match QueryFault::from(error) {
+        QueryFault::Refused(error) => SqlFault::Columns(error),
+        fault => SqlFault::Query(fault),
+    }
+}
+
+// A database with an empty table, which this statement makes.
+fn created(alloc: Global, text: &str) -> Result<Connection<MemStore>, SqlFault>
+    ensures made { IfOk result (spec.IsFilled ((text.now, []) ∷ [])) }
+    ensures others { IfErr result (λ fault. fault ≢ SqlFault.NoRows) }
+    ensures limit { IfOk result (λ made. made.step_limit ≡ None) }
+{
+    let mut connection = Connection::open_in_memory(alloc)?;
+    match run(&mut connection, text, &[]) {
+        Ok(()) => Ok(connection),
+        Err(error) => Err(fault_of(error)),
+    }
+}
+
+// Whether this statement makes a table, and a query names no other one.
+fn has_tables(alloc: Global, text: &str, query: &str) -> bool {
+    match created(alloc, text) {
+        Ok(mut connection) => !matches!(
+            connection.prepare(query),
+            Err(Error::SqlInputError(CompileError::NoSuchTable))
+        ),
+        Err(_) => false,
+    }
+}
+
+/// The name of the table for a query: the given one, or `input` where no table has that name, or the query names another.
+pub(crate) fn name_for<'a>(
+    alloc: Global,
+    name: &'a str,
+    columns: &str,
+    query: &str,
+) -> Result<&'a str, AllocError>
+    ensures { IfOk result (λ called. (called.now ≡ name.now) ⊎ (called.now ≡ codes "input")) }
+{
+    let text = create_text(alloc, name, columns)?;
+    if has_tables(alloc, text.as_str(), query) {
+        return Ok(name);
+    }
+    Ok("input")
+}
+
+/// A database with a table of these columns, so many, and rows, over which no row counts as changed.
+pub(crate) fn filled(
+    alloc: Global,
+    table: &str,
+    columns: &str,
+    count: usize,
+    records: &[StringRecord],
+) -> Result<Connection<MemStore>, SqlFault>
+    ensures filled { IfOk result (spec.IsFilled (spec.filling table.now columns.now count (map fields_of records.now))) }
+    ensures limit { IfOk result (λ made. made.step_limit ≡ None) }
+    ensures others { IfErr result (λ fault. fault ≢ SqlFault.NoRows) }
+    ensures uncounted { IfOk result (λ made. made.changes ≡ 0) }
+{
+    let mut connection = created(alloc, create_text(alloc, table, columns)?.as_str())?;
+    let insertion = insert_text(alloc, table, count)?;
+    insert_rows(alloc, &mut connection, insertion.as_str(), count, records)?;
+    let settling = settle_text(alloc, table)?;
+    if let Err(error) = run(&mut connection, settling.as_str(), &[]) {
+        return Err(fault_of(error));
+    }
+    if connection.changes() > 0 {
+        return Err(SqlFault::Memory);
+    }
+    Ok(connection)
+}
