@@ -3,7 +3,9 @@
 use clap::error::ErrorKind;
 use clap::{Arg, ArgAction, ArgMatches, Command};
 use pg_layout::AlignmentHorizontal;
-use ruled_io::{Format, Kind, Log, OneLine, Request, RowRules, Rows, Selection, Source};
+use ruled_io::{
+    Format, Kind, Known, Log, OneLine, Query, Request, RowRules, Rows, Selection, Source,
+};
 use ruled_table::{Bounds, Breaking, Look, Options, Overflow};
 use std::alloc::{AllocError, Global};
 use std::env::VarError;
@@ -110,7 +112,7 @@ const CHOICES: [Choice; 29] = [
         short: Some('q'),
         value: "SQL",
         takes: Takes::Text,
-        help: "Print the rows of this SQL statement, which must not change the database",
+        help: "Print the rows that this SQL statement reads from a database, or from the table input, which has the rows of any other file",
         ..FLAG
     },
     Choice {
@@ -449,17 +451,16 @@ fn is_padded(found: &ArgMatches) -> bool {
     found.get_str("ragged") == Some("pad")
 }
 
-// Whether it is asked for a part of a database, or why it can't be.
-fn is_selected(found: &ArgMatches, asked: Option<Kind>) -> Result<bool, &'static str> {
-    let (query, table) = (found.get_str("query"), found.get_str("table"));
-    if query.is_none() && table.is_none() {
+// Whether it is asked for a table of a database, or why it can't be.
+fn is_of_table(found: &ArgMatches, asked: Option<Kind>) -> Result<bool, &'static str> {
+    if found.get_str("table").is_none() {
         return Ok(false);
     }
-    if query.is_some() && table.is_some() {
+    if found.get_str("query").is_some() {
         return Err("--query takes no --table");
     }
     if found.get_str("delimiter").is_some() || matches!(asked, Some(Kind::Rows(_))) {
-        return Err("--query and --table need a database");
+        return Err("--table needs a database");
     }
     Ok(true)
 }
@@ -506,7 +507,7 @@ fn separated(source: Source) -> Result<Source, &'static str> {
 fn source_asked(found: &ArgMatches) -> Result<Source, &'static str> {
     let asked = kind_asked(found)?;
     let mut source = source_without_selection(found, asked)?;
-    if is_selected(found, asked)? {
+    if is_of_table(found, asked)? {
         source = database(Selection::Tables);
     }
     if asks_for_lines(found) {
@@ -519,6 +520,9 @@ fn source_asked(found: &ArgMatches) -> Result<Source, &'static str> {
 // Why the input can't be streamed, if it can't.
 fn unstreamed(found: &ArgMatches, source: &Source) -> Option<&'static str> {
     found.get_one::<u32>("stream")?;
+    if found.get_str("query").is_some() {
+        return Some("--query needs all rows, so they can't be streamed");
+    }
     if matches!(source, Source::Database { .. }) {
         return Some("a database can't be streamed");
     }
@@ -688,15 +692,49 @@ fn rows_of(found: &ArgMatches) -> Rows {
     }
 }
 
-// What is asked of a database, with its words, if anything is.
-fn selection_of(alloc: Global, found: &ArgMatches) -> Result<Option<Selection>, AllocError> {
-    let query = copy_of(alloc, found.get_str("query"))?;
-    if let Some(query) = query {
-        return Ok(Some(Selection::Query(query)));
+// The name of the table that has the rows of a file: that of the file, without its folder and its ending.
+fn table_named(file: Option<&str>) -> &str {
+    let Some(path) = file else {
+        return "input";
+    };
+    let name = path.rsplit_once('/').map_or(path, |(_, name)| name);
+    match name.rsplit_once('.') {
+        Some((stem, _)) if !stem.is_empty() => stem,
+        _ => name,
+    }
+}
+
+// A query of what is known so of its rows. Names above rows are those of the columns that it reads.
+fn query_of(
+    alloc: Global,
+    found: &ArgMatches,
+    text: String,
+    known: Option<Known>,
+    view: &mut Options,
+) -> Result<Query, AllocError> {
+    Ok(Query {
+        text,
+        known,
+        table: String::from_str(alloc, table_named(name_in(found)))?,
+        names: mem::replace(&mut view.names, Vec::new(alloc)),
+        is_padded: mem::replace(&mut view.is_padded, false),
+    })
+}
+
+// The source, with what is asked of it.
+fn selected(
+    alloc: Global,
+    found: &ArgMatches,
+    source: Source,
+    view: &mut Options,
+) -> Result<Source, AllocError> {
+    if let Some(text) = copy_of(alloc, found.get_str("query"))? {
+        let query = query_of(alloc, found, text, source.known_rows(), view)?;
+        return Ok(database(Selection::Query(query)));
     }
     match copy_of(alloc, found.get_str("table"))? {
-        Some(name) => Ok(Some(Selection::Table(name))),
-        None => Ok(None),
+        Some(name) => Ok(database(Selection::Table(name))),
+        None => Ok(source),
     }
 }
 
@@ -709,11 +747,8 @@ fn table_of(
     screen: Screen,
 ) -> Result<Wanted, AllocError> {
     let file = copy_of(alloc, name_in(found))?;
-    let view = view_of(alloc, found, look, screen)?;
-    let source = match selection_of(alloc, found)? {
-        Some(selection) => database(selection),
-        None => source,
-    };
+    let mut view = view_of(alloc, found, look, screen)?;
+    let source = selected(alloc, found, source, &mut view)?;
     Ok(Wanted {
         file,
         request: Request {

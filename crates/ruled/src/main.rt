@@ -11,7 +11,7 @@ use crate::arguments::{Asked, Wanted, read_arguments};
 use crate::compression::unpacker;
 use crate::logs::log_beside;
 use crate::waiting::Waiting;
-use ruled_io::{Output, Pieces, Quoted, Request, Source, run};
+use ruled_io::{Known, Output, Pieces, Quoted, Request, Selection, Source, run};
 use std::fs::File;
 use std::io::{BufWriter, ErrorKind, Read, Write};
 use std::process::ExitCode;
@@ -27,13 +27,25 @@ fn words_of(error: &io::Error) -> &'static str {
     }
 }
 
+// Whether an input may be a database.
+fn may_be_database(source: &Source) -> bool {
+    match source {
+        Source::Rows(_) | Source::Values { .. } => false,
+        Source::Database {
+            selection: Selection::Query(query),
+            ..
+        } => matches!(query.known, None | Some(Known::Nothing { .. })),
+        Source::Seen { .. } | Source::Database { .. } => true,
+    }
+}
+
 // Opens the file of this name, once it is known what the logs beside it may have, where it may be a database.
 // A folder can be opened, too: only a read of it fails, when its name is no longer known.
 fn open(rt: &HostRuntime, name: &str, request: &mut Request) -> io::Result<File> {
     if fs::metadata(rt, name)?.is_dir() {
         return Err(ErrorKind::IsADirectory.into());
     }
-    if !matches!(request.source, Source::Rows(_)) {
+    if may_be_database(&request.source) {
         request.source.set_log(log_beside(rt, name)?);
     }
     fs::open(rt, name)

@@ -1,9 +1,10 @@
 //! What the lines of a case say.
 
 use pg_layout::AlignmentHorizontal;
-use ruled_io::{Format, Kind, Log, Request, RowRules, Rows, Selection, Source};
+use ruled_io::{Format, Kind, Known, Log, Query, Request, RowRules, Rows, Selection, Source};
 use ruled_table::{Look, Options, Overflow};
 use std::alloc::{AllocError, Global};
+use std::mem;
 
 // The source that a word names: that of a format, or the one that the input shows.
 fn source_of(word: &str) -> Option<Source> {
@@ -59,6 +60,30 @@ fn side_of(word: &str) -> Option<Option<AlignmentHorizontal>> {
     }
 }
 
+// A query without names, of a database, or of rows of whose format this is known. These are the table `shop`.
+fn query_of(alloc: Global, text: String, known: Option<Known>) -> Result<Query, AllocError> {
+    Ok(Query {
+        text,
+        known,
+        table: "shop".to_string(alloc)?,
+        names: Vec::new(alloc),
+        is_padded: false,
+    })
+}
+
+// Has a query of the rows of a request below its names, which the answer doesn't get.
+fn select(alloc: Global, request: &mut Request, value: &str) -> Result<(), AllocError> {
+    let text = format!(in alloc; "select {value}")?;
+    let mut query = query_of(alloc, text, request.source.known_rows())?;
+    query.names = mem::replace(&mut request.view.names, Vec::new(alloc));
+    query.is_padded = mem::replace(&mut request.view.is_padded, false);
+    request.source = Source::Database {
+        selection: Selection::Query(query),
+        log: request.source.log(),
+    };
+    Ok(())
+}
+
 // The source that an option sets, if it sets one.
 fn source_set(
     alloc: Global,
@@ -72,7 +97,7 @@ fn source_set(
             let format = Format::separated(delimiter_of(value), RowRules::PLAIN);
             return Ok(Some(Source::Rows(format)));
         }
-        "query" => Selection::Query(value.to_string(alloc)?),
+        "query" => Selection::Query(query_of(alloc, value.to_string(alloc)?, None)?),
         "table" => Selection::Table(meant(alloc, value)?),
         _ => return Ok(None),
     };
@@ -146,6 +171,10 @@ pub(crate) fn set_option(
     if set_rule(rules, name, value).is_some() {
         request.source.set_rules(*rules);
         request.view.is_padded |= name == "ragged" && value == "pad";
+        return Ok(true);
+    }
+    if name == "select" {
+        select(alloc, request, value)?;
         return Ok(true);
     }
     if let Some(source) = source_set(alloc, request.source.log(), name, value)? {

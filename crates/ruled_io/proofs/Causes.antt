@@ -1,11 +1,15 @@
 -- What causes a fault that is handed on.
-use Rattle.std.proofs.Common.{◌≡◌, ◌∙◌, ℕ, Bool, true, false, List, Option, Some, None, Result, Ok, Err, inl, inr, refl, sym, ap, subst}
-use Rattle.std.specs.Prelude.{not, IfErr, IfOk, IfSome, OnOk}
+use Rattle.std.proofs.Common.{◌≡◌, ◌∙◌, ℕ, Bool, true, false, List, [], Option, Some, None, Result, Ok, Err, inl, inr, refl, sym, ap, subst}
+use Rattle.std.specs.Prelude.{not, option_map, IfErr, IfOk, IfSome, OnOk}
 use Rattle.std.specs.Io.KnownBytes.{Appends, Keeps}
 use Rattle.std.specs.Result.{IsErrAnd, result_err}
 use Rattle.std.proofs.KnownBytes.{Appends-kept, Keeps-refl}
 use Rattle.std.proofs.lemmas.Bool.{false≢true, true≢false}
 use Rattle.pg_layout.specs.Text.{Text}
+use Rattle.ruled_csv.specs.declared.fault.RowsFault.{RowsFault}
+use Rattle.ruled_csv.specs.declared.fault.RowsFault.TheVariants as rows
+use Rattle.ruled_json.specs.declared.fault.JsonFault.{JsonFault}
+use Rattle.ruled_json.specs.declared.fault.JsonFault.TheVariants as json
 use Rattle.ruled_database.specs.declared.fault.DatabaseFault.{DatabaseFault}
 use Rattle.ruled_database.specs.declared.fault.DatabaseFault.TheVariants as database
 use Rattle.ruled_sql.specs.declared.fault.QueryFault.TheVariants as query
@@ -14,11 +18,12 @@ use Rattle.ruled_sql.specs.declared.fault.SqlFault.TheVariants as sql
 use Rattle.ruled_database.specs.declared.fault.TableFault.TheVariants as table
 use Rattle.ruled_table.specs.View.{table_fault, table_text}
 use Rattle.ruled_table.specs.declared.fault.ViewFault.{ViewFault}
-use Rattle.ruled_io.specs.Databases.{LacksAnswer, LacksSelected, LacksStored}
-use Rattle.ruled_io.specs.Faults.{IsOfRead, Tells, fault_of_database, fault_of_sql, is_early, is_memory, is_of_write}
-use Rattle.ruled_io.specs.Input.{input_fault, rows_in}
+use Rattle.ruled_io.specs.Databases.{LacksAnswer, LacksAnswerOf, LacksQueried, LacksSelected, LacksStored, LacksTableOf, table_of}
+use Rattle.ruled_io.specs.Faults.{IsOfRead, Tells, but_line_in, fault_of_database, fault_of_json, fault_of_rows, fault_of_sql, is_early, is_memory, is_of_write}
+use Rattle.ruled_io.specs.Formats.{content_of, format_in}
+use Rattle.ruled_io.specs.Input.{format_fault, input_fault, rows_in}
 use Rattle.ruled_io.specs.Output.{failure_in, fault_written, write_part, Begins}
-use Rattle.ruled_io.specs.Requests.{format_told, hides_rows, holds_database, log_of, rows_needed, selection_of}
+use Rattle.ruled_io.specs.Requests.{format_told, hides_rows, holds_database, known_in, log_of, rows_needed, selection_of}
 use Rattle.ruled_io.specs.Runs.{AreAsked, AreRows, AreRowsAs, CausedAtOnce, LacksInput, LacksRows, LacksRowsAs, ShowsAll}
 use Rattle.ruled_io.specs.Steps.{Draws}
 use Rattle.ruled_io.specs.declared.fault.InputFault.{InputFault}
@@ -27,8 +32,12 @@ use Rattle.ruled_io.specs.declared.fault.InputFault.TheVariants.{Memory}
 use Rattle.ruled_io.specs.declared.fault.RunFault.{RunFault}
 use Rattle.ruled_io.specs.declared.fault.RunFault.TheVariants.{Input, Read, Closed, Write}
 use Rattle.ruled_io.specs.declared.formats.Known.{Known}
+use Rattle.ruled_io.specs.declared.formats.Format.{Format}
+use Rattle.ruled_io.specs.declared.formats.Format.TheVariants.{Separated, Json, JsonLines}
+use Rattle.ruled_io.specs.declared.request.Query.{Query}
 use Rattle.ruled_io.specs.declared.request.Request.{Request}
 use Rattle.ruled_io.specs.declared.request.Selection.{Selection}
+use Rattle.ruled_io.specs.declared.request.Selection.TheVariants.{Query as Select}
 use Rattle.ruled_io.specs.declared.request.Source.{Source}
 use Rattle.ruled_io.proofs.Written.{begins-all, begins-kept}
 
@@ -64,6 +73,9 @@ module _ {X : Type 0} (selection : Option Selection) (bytes : List ℕ) where
   of_query found (Ok x) none told = absurd told
   of_query sql.Database (Err fault) none told = subst (LacksSelected selection bytes) (sym told) none
   of_query sql.Damage (Err fault) none told = subst (LacksSelected selection bytes) (sym told) none
+  of_query sql.NoRows (Err fault) none told = subst (LacksSelected selection bytes) (sym told) none
+  of_query (sql.Columns error) (Err fault) none told = subst (LacksSelected selection bytes) (sym told) none
+  of_query sql.NoTable (Err fault) none told = subst (LacksSelected selection bytes) (sym told) none
   of_query (sql.Query (query.Refused error)) (Err fault) none told = subst (LacksSelected selection bytes) (sym told) none
   of_query (sql.Query query.Change) (Err fault) none told = subst (LacksSelected selection bytes) (sym told) none
   of_query (sql.Query (query.Encoding row)) (Err fault) none told = subst (LacksSelected selection bytes) (sym told) none
@@ -89,12 +101,83 @@ module _ {X : Type 0} (selection : Option Selection) (bytes : List ℕ) where
   of_stored (database.Table (table.Encoding row)) (Err fault) lacks told = subst (LacksSelected selection bytes) (sym told) lacks
   of_stored (database.Table table.Memory) (Err fault) lacks told = subst (LacksSelected selection bytes) (sym told) tt
 
+-- ---- what is wrong with the rows that a query reads
+
+abbrev is_of_rows : InputFault → Bool
+is_of_rows (input.Rows fault) = true
+is_of_rows (input.Json fault) = true
+is_of_rows (input.Sql fault) = false
+is_of_rows (input.Database fault) = false
+is_of_rows input.Log = false
+is_of_rows (input.Stream fault) = false
+is_of_rows (input.Column name) = false
+is_of_rows input.Totals = false
+is_of_rows input.Memory = true
+
+of-rows : (fault : RowsFault) → is_of_rows (fault_of_rows fault) ≡ true
+of-rows (rows.OpenQuote line) = refl
+of-rows (rows.BehindQuote line) = refl
+of-rows (rows.Length row line fields columns) = refl
+of-rows (rows.Encoding row line) = refl
+of-rows rows.Memory = refl
+
+of-json : (fault : JsonFault) → is_of_rows (fault_of_json fault) ≡ true
+of-json (json.Encoding place) = refl
+of-json (json.Syntax place) = refl
+of-json json.NoRecords = refl
+of-json (json.NoObject place) = refl
+of-json (json.NoColumn place) = refl
+of-json json.Memory = refl
+
+mapped : {A : Type 0} (f : A → InputFault) → ((a : A) → is_of_rows (f a) ≡ true) → (found : Option A) (fault : InputFault) → option_map f found ≡ Some fault → is_of_rows fault ≡ true
+mapped f each None fault is = absurd cc
+mapped f each (Some a) fault is = let same : f a ≡ fault = cc in subst (λ (it : InputFault). is_of_rows it ≡ true) same (each a)
+
+of-format : (format : Format) (bytes : List ℕ) (fault : InputFault) → format_fault format bytes ≡ Some fault → is_of_rows fault ≡ true
+of-format (Separated dialect) bytes fault is = mapped fault_of_rows of-rows _ fault is
+of-format Json bytes fault is = mapped fault_of_json of-json _ fault is
+of-format JsonLines bytes fault is = mapped fault_of_json of-json _ fault is
+
+of-input : (known : Known) (bytes : List ℕ) (fault : InputFault) → input_fault None known bytes ≡ Some fault → is_of_rows fault ≡ true
+of-input known bytes fault is = of-format (format_in known bytes) (content_of (format_in known bytes) bytes) fault is
+
+module _ (query : Query) (known : Known) (bytes : List ℕ) (is : known_in query.known bytes ≡ Some known) where
+  abbrev Lacks : InputFault → Type 0
+  Lacks fault = LacksSelected (Some (Select query)) bytes fault
+
+  table-lacks : (fault : InputFault) → LacksTableOf (Some known) bytes fault → LacksQueried (Some (Select query)) bytes fault
+  table-lacks fault lacks = subst (λ (it : Option Known). LacksTableOf it bytes fault) (sym is) lacks
+
+  -- the input has none
+  of_table : (fault : InputFault) → (is_memory fault ≡ false → input_fault None known bytes ≡ Some (but_line_in fault)) → Lacks fault
+  of_table (input.Rows fault) tells = table-lacks (input.Rows fault) (tells refl)
+  of_table (input.Json fault) tells = table-lacks (input.Json fault) (tells refl)
+  of_table (input.Sql fault) tells = absurd (false≢true (of-input known bytes (input.Sql fault) (tells refl)))
+  of_table (input.Database fault) tells = absurd (false≢true (of-input known bytes (input.Database fault) (tells refl)))
+  of_table input.Log tells = absurd (false≢true (of-input known bytes input.Log (tells refl)))
+  of_table (input.Stream fault) tells = absurd (false≢true (of-input known bytes (input.Stream fault) (tells refl)))
+  of_table (input.Column name) tells = absurd (false≢true (of-input known bytes (input.Column name) (tells refl)))
+  of_table input.Totals tells = absurd (false≢true (of-input known bytes input.Totals (tells refl)))
+  of_table input.Memory tells = tt
+
+  -- it has them, and the query has none
+  pub of_table_query : {X : Type 0} (found : SqlFault) (result : Result X InputFault) → input_fault None known bytes ≡ None → (found ≡ sql.NoRows → table_of query (rows_in None known bytes) ≡ [])
+      → IsErrAnd result (λ fault. fault ≡ fault_of_sql found) → IfErr result (LacksSelected (Some (Select query)) bytes)
+  of_table_query found result sound none told =
+      of_query (Some (Select query)) bytes found result (subst (λ (it : Option Known). LacksAnswerOf it query bytes found) (sym is) (sound, none)) told
+
+  -- a fault of its rows is handed on
+  pub of_rows : {X : Type 0} (found : InputFault) (result : Result X InputFault) → (is_memory found ≡ false → input_fault None known bytes ≡ Some (but_line_in found)) → IsErrAnd result (λ fault. fault ≡ found)
+      → IfErr result (LacksSelected (Some (Select query)) bytes)
+  of_rows found (Ok x) tells told = tt
+  of_rows found (Err fault) tells told = subst Lacks (sym told) (of_table found tells)
+
 -- a fault of a selection, where no log hides rows
 pub of_selection : {X : Type 0} (source : Source) (bytes : List ℕ) (result : Result X InputFault) → hides_rows (log_of source) bytes ≡ false → IfErr result (LacksSelected (selection_of source) bytes)
     → IfErr result (LacksRowsAs None true source bytes)
 of_selection source bytes (Ok x) shown lacks = tt
-of_selection source bytes (Err (input.Rows fault)) shown lacks = absurd lacks
-of_selection source bytes (Err (input.Json fault)) shown lacks = absurd lacks
+of_selection source bytes (Err (input.Rows fault)) shown lacks = (shown, lacks)
+of_selection source bytes (Err (input.Json fault)) shown lacks = (shown, lacks)
 of_selection source bytes (Err (input.Sql fault)) shown lacks = (shown, lacks)
 of_selection source bytes (Err (input.Database fault)) shown lacks = (shown, lacks)
 of_selection source bytes (Err input.Log) shown lacks = absurd lacks

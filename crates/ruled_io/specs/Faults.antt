@@ -142,6 +142,9 @@ fault_of_json json_faults.Memory = Memory
 abbrev pub fault_of_sql : SqlFault → InputFault
 fault_of_sql sql.Database = Sql sql.Database
 fault_of_sql sql.Damage = Sql sql.Damage
+fault_of_sql sql.NoRows = Sql sql.NoRows
+fault_of_sql (sql.Columns error) = Sql (sql.Columns error)
+fault_of_sql sql.NoTable = Sql sql.NoTable
 fault_of_sql (sql.Query (query.Refused error)) = Sql (sql.Query (query.Refused error))
 fault_of_sql (sql.Query query.Change) = Sql (sql.Query query.Change)
 fault_of_sql (sql.Query (query.Encoding row)) = Sql (sql.Query (query.Encoding row))

@@ -1,5 +1,5 @@
 -- What is asked of a run.
-use Rattle.std.specs.Prelude.{ℕ, ◌-◌, ◌==◌, length, max, Bool, true, false, List, Option, Some, None, option_map, if◌then◌else◌}
+use Rattle.std.specs.Prelude.{ℕ, ◌-◌, ◌==◌, ◌&&◌, length, max, Bool, true, false, List, Option, Some, None, option_map, if◌then◌else◌}
 use Rattle.ruled_csv.specs.declared.dialect.RowRules.{RowRules}
 use Rattle.ruled_database.specs.Files.{keeps_log}
 use Rattle.ruled_io.specs.Formats as formats
@@ -22,7 +22,25 @@ format_told (Values rules) = known.Values rules
 format_told (Seen log rules) = known.Nothing rules
 format_told (Database selection log) = known.Nothing formats.plain
 
--- it is a database: that is told, or the first bytes show it
+-- the same of its rows, unless they are a database's
+abbrev pub known_rows : Source → Option Known
+known_rows (Rows format) = Some (known.Format format)
+known_rows (Values rules) = Some (known.Values rules)
+known_rows (Seen log rules) = Some (known.Nothing rules)
+known_rows (Database selection log) = None
+
+-- these bytes are a database, where this is known of the format of rows
+abbrev pub sees_database : Known → List ℕ → Bool
+sees_database (known.Format format) bytes = false
+sees_database (known.Values rules) bytes = false
+sees_database (known.Nothing rules) bytes = formats.is_database bytes
+
+-- what is known of the rows that a query reads, unless the bytes are a database
+abbrev pub known_in : Option Known → List ℕ → Option Known
+known_in None bytes = None
+known_in (Some told) bytes = if sees_database told bytes then None else Some told
+
+-- it is a database, or asked as one: that is told, or the first bytes show it
 abbrev pub holds_database : Source → List ℕ → Bool
 holds_database (Rows format) bytes = false
 holds_database (Values rules) bytes = false
@@ -65,7 +83,7 @@ with_rules rules (Database selection log) = Database selection log
 abbrev pub hides_rows : Log → List ℕ → Bool
 hides_rows Empty bytes = false
 hides_rows Filled bytes = true
-hides_rows Unknown bytes = keeps_log bytes
+hides_rows Unknown bytes = formats.is_database bytes && keeps_log bytes
 
 -- so many rows are needed of an input, if not all: those that are shown, and row 0, which names the columns, unless names are given
 abbrev pub rows_needed : Options → Option ℕ

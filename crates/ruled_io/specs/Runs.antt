@@ -3,7 +3,7 @@ use Rattle.std.specs.Prelude.{◌≡◌, ◌⊎◌, ⊤, ℕ, Bool, true, false,
 use Rattle.std.specs.Io.KnownBytes.{Keeps}
 use Rattle.pg_layout.specs.Text.{Text}
 use Rattle.ruled_table.specs.View.{table_fault, table_text}
-use Rattle.ruled_io.specs.Databases.{AreSelected, LacksAnswer, LacksStored}
+use Rattle.ruled_io.specs.Databases.{AreSelected, LacksAnswer, LacksQueried, LacksStored}
 use Rattle.ruled_io.specs.Faults.{but_line_in, fault_of_view, is_memory}
 use Rattle.ruled_io.specs.Input.{input_fault, rows_in}
 use Rattle.ruled_io.specs.Requests.{format_told, hides_rows, holds_database, log_of, rows_needed, selection_of}
@@ -35,8 +35,8 @@ AreRows limit source bytes rows = AreRowsAs limit (holds_database source bytes) 
 -- why there are none, unless memory was refused; a log that may hide rows comes before all that is asked of a database
 abbrev pub LacksRowsAs : Option ℕ → Bool → Source → List ℕ → InputFault → Type 0
 LacksRowsAs limit false source bytes fault = is_memory fault ≡ false → input_fault limit (format_told source) bytes ≡ Some (but_line_in fault)
-LacksRowsAs limit true source bytes (input.Rows fault) = ⊥
-LacksRowsAs limit true source bytes (input.Json fault) = ⊥
+LacksRowsAs limit true source bytes (input.Rows fault) = (hides_rows (log_of source) bytes ≡ false) × LacksQueried (selection_of source) bytes (input.Rows fault)
+LacksRowsAs limit true source bytes (input.Json fault) = (hides_rows (log_of source) bytes ≡ false) × LacksQueried (selection_of source) bytes (input.Json fault)
 LacksRowsAs limit true source bytes (input.Stream fault) = ⊥
 LacksRowsAs limit true source bytes (input.Sql fault) = (hides_rows (log_of source) bytes ≡ false) × LacksAnswer (selection_of source) bytes fault
 LacksRowsAs limit true source bytes (input.Database fault) = (hides_rows (log_of source) bytes ≡ false) × LacksStored (selection_of source) bytes fault

@@ -1,16 +1,62 @@
-//! The rows that are asked of a database.
+//! The rows that are asked of a database, or by a query.
 
-ghost use Rattle.std.specs.Prelude.{None, map, option_map, true, IfErr, IfOk};
+ghost use Rattle.std.specs.Prelude.{◌≡◌, None, Some, map, option_map, true, IfErr, IfOk};
 ghost use Rattle.csv.specs.Records.{fields_of};
-ghost use Rattle.ruled_io.specs.Databases.{AreSelected, LacksSelected};
+ghost use Rattle.ruled_io.specs.Databases.{AreAnswer, AreSelected, LacksSelected, table_of};
+ghost use Rattle.ruled_io.specs.Requests.{known_in};
 ghost use Rattle.ruled_io.specs.Runs.{AreAsked, LacksRowsAs};
+ghost use Rattle.ruled_io.specs.declared.request.Selection.TheVariants.{Query as Select};
 
 use crate::fault::InputFault;
-use crate::request::{Selection, Source};
+use crate::formats::Known;
+use crate::input::rows_in;
+use crate::request::{Query, Selection, Source};
 use csv::StringRecord;
 use ruled_database::{list_rows, table_rows};
-use ruled_sql::query_rows;
-use std::alloc::Global;
+use ruled_sql::{query_rows, query_table};
+use ruled_table::{named, padded};
+use std::alloc::{AllocError, Global};
+
+// The table of these rows that a query reads.
+fn table_of(
+    alloc: Global,
+    query: &Query,
+    rows: Vec<StringRecord>,
+) -> Result<Vec<StringRecord>, AllocError>
+    ensures { IfOk result (λ table. map fields_of table.items ≡ table_of query.now (map fields_of rows.items)) }
+{
+    let rows = named(alloc, &query.names, rows)?;
+    if query.is_padded {
+        return padded(alloc, rows);
+    }
+    Ok(rows)
+}
+
+// The rows that a query answers of the rows that bytes hold, of whose format this is known.
+fn queried_rows(
+    alloc: Global,
+    query: &Query,
+    known: Known,
+    bytes: &[u8],
+) -> Result<Vec<StringRecord>, InputFault>
+    ensures rows { IfOk result (λ rows. AreAnswer (Some known) query.now bytes.now (map fields_of rows.items)) }
+    ensures cause { known_in query.now.known bytes.now ≡ Some known → IfErr result (LacksSelected (Some (Select query.now)) bytes.now) }
+{
+    let rows = rows_in(alloc, known, bytes)?;
+    let table = table_of(alloc, query, rows)?;
+    Ok(query_table(alloc, query.table.as_str(), &table, query.text.as_str())?)
+}
+
+// The rows that a query answers.
+fn answer_rows(alloc: Global, query: &Query, bytes: &[u8]) -> Result<Vec<StringRecord>, InputFault>
+    ensures rows { IfOk result (λ rows. AreAnswer (known_in query.now.known bytes.now) query.now bytes.now (map fields_of rows.items)) }
+    ensures cause { IfErr result (LacksSelected (Some (Select query.now)) bytes.now) }
+{
+    match query.known_in(bytes) {
+        Some(known) => queried_rows(alloc, query, known, bytes),
+        None => Ok(query_rows(alloc, bytes, query.text.as_str())?),
+    }
+}
 
 // The rows of a selection, or the tables where there is none.
 fn selected_rows(
@@ -22,13 +68,13 @@ fn selected_rows(
     ensures cause { IfErr result (LacksSelected (option_map (λ it. it.now) selection.entry) bytes.now) }
 {
     match selection {
-        Some(Selection::Query(query)) => Ok(query_rows(alloc, bytes, query.as_str())?),
+        Some(Selection::Query(query)) => answer_rows(alloc, query, bytes),
         Some(Selection::Table(name)) => Ok(table_rows(alloc, bytes, name.as_str())?),
         Some(Selection::Tables) | None => Ok(list_rows(alloc, bytes)?),
     }
 }
 
-/// The rows that are asked of a database.
+/// The rows that are asked of a database, or by a query.
 pub(crate) fn asked_rows(
     alloc: Global,
     source: &Source,

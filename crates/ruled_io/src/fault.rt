@@ -33,7 +33,7 @@ pub enum InputFault {
     Rows(RowsFault),
     /// The bytes of JSON hold no rows.
     Json(JsonFault),
-    /// The database can't be opened, or the query has no rows.
+    /// The database can't be opened, the rows make no table for the query, or it has no rows.
     Sql(SqlFault),
     /// The database has no such table to show, or no list of tables.
     Database(DatabaseFault),
@@ -196,7 +196,13 @@ impl InputFault {
         match self {
             InputFault::Rows(fault) => writeln!(err, "{fault}"),
             InputFault::Json(fault) => writeln!(err, "{fault}"),
-            InputFault::Sql(fault) => writeln!(err, "{fault}"),
+            InputFault::Sql(fault) => match (fault, request.source.selection()) {
+                (SqlFault::NoTable, Some(Selection::Query(query))) => {
+                    let name = Quoted(query.table.as_str());
+                    writeln!(err, "{fault}: the table of the rows is {name}, or input")
+                }
+                _ => writeln!(err, "{fault}"),
+            },
             InputFault::Database(fault) => match request.source.selection() {
                 Some(Selection::Table(name)) => writeln!(err, "{}: {fault}", Quoted(name.as_str())),
                 _ => writeln!(err, "{fault}"),

@@ -25,7 +25,7 @@ pub enum Format {
 
 /// What is known of a format before a byte is read.
 #[derive(Clone, Copy)]
-pub(crate) enum Known {
+pub enum Known {
     /// All of it.
     Format(Format),
     /// That it is separated values, and which of their lines are rows. The first row shows the delimiter.

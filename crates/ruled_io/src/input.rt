@@ -27,8 +27,12 @@ fn rows_of(alloc: Global, format: Format, bytes: &[u8]) -> Result<Vec<StringReco
     }
 }
 
-// The rows that bytes hold, of which the first is row 0, or why there are none.
-fn rows_in(alloc: Global, known: Known, bytes: &[u8]) -> Result<Vec<StringRecord>, InputFault>
+/// The rows that bytes hold, of which the first is row 0, or why there are none.
+pub(crate) fn rows_in(
+    alloc: Global,
+    known: Known,
+    bytes: &[u8],
+) -> Result<Vec<StringRecord>, InputFault>
     ensures rows { IfOk result (λ rows. map fields_of rows.items ≡ rows_in None known bytes.now) }
     ensures fault { Tells (input_fault None known bytes.now) result }
 {

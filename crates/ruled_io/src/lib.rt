@@ -19,11 +19,11 @@ mod request;
 mod stream;
 
 pub use crate::fault::{InputFault, RunFault, StreamedFault};
-pub use crate::formats::{Format, Kind};
+pub use crate::formats::{Format, Kind, Known};
 pub use crate::laws::both_ways_show_one_text;
 pub use crate::name::{OneLine, Quoted};
 pub use crate::output::Output;
 pub use crate::pieces::Pieces;
 pub use crate::program::{Ending, run};
-pub use crate::request::{Log, Request, Rows, Selection, Source};
+pub use crate::request::{Log, Query, Request, Rows, Selection, Source};
 pub use ruled_csv::{Dialect, RowRules};

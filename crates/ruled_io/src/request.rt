@@ -28,19 +28,57 @@ impl Log {
         match self {
             Log::Empty => false,
             Log::Filled => true,
-            Log::Unknown => keeps_log(bytes),
+            Log::Unknown => is_database(bytes) && keeps_log(bytes),
         }
     }
 }
 
-/// Which rows of a database are shown.
+/// A query in SQL.
+#[derive(Drop)]
+pub struct Query {
+    /// The statement.
+    pub text: String,
+    /// What is known of the rows that it reads, unless these are a database's.
+    pub known: Option<Known>,
+    /// The name of the table of these rows, for which `input` does, too.
+    pub table: String,
+    /// Names above them, if there are any.
+    pub names: Vec<String>,
+    /// Whether row 0 has as many columns as the longest row.
+    pub is_padded: bool,
+}
+
+// Whether these bytes are a database, where this is known of the format of rows.
+fn sees_database(known: Known, bytes: &[u8]) -> bool
+    ensures { result ≡ spec.sees_database known bytes.now }
+{
+    match known {
+        Known::Format(_) | Known::Values { .. } => false,
+        Known::Nothing { .. } => is_database(bytes),
+    }
+}
+
+impl Query {
+    // What is known of the rows that it reads if these are the bytes, unless they are a database.
+    pub(crate) fn known_in(&self, bytes: &[u8]) -> Option<Known>
+        ensures { result ≡ spec.known_in self.now.known bytes.now }
+    {
+        let known = self.known?;
+        if sees_database(known, bytes) {
+            return None;
+        }
+        Some(known)
+    }
+}
+
+/// Which rows of an input are shown, if not all.
 #[derive(Drop)]
 pub enum Selection {
-    /// Those that this SQL statement selects.
-    Query(String),
-    /// All rows of the table of this name, in any case.
+    /// Those that a query selects.
+    Query(Query),
+    /// All rows of the table of this name of a database, in any case.
     Table(String),
-    /// A row for each table and each view, with its columns.
+    /// A row for each table and each view of a database, with its columns.
     Tables,
 }
 
@@ -56,7 +94,7 @@ pub enum Source {
     /// value, else lines of JSON; anything else is separated values like `Values`. Of a database, which the
     /// first bytes show, too, the tables are listed.
     Seen { log: Log, rules: RowRules },
-    /// A database of SQLite, and which of its rows are shown.
+    /// A database of SQLite, or rows of which a query selects, and which rows are shown.
     Database { selection: Selection, log: Log },
 }
 
@@ -72,6 +110,16 @@ impl Source {
             Source::Database { .. } => Known::Nothing {
                 rules: RowRules::PLAIN,
             },
+        }
+    }
+
+    /// What is known of the format of its rows, unless they are a database's.
+    pub fn known_rows(&self) -> Option<Known>
+        ensures { result ≡ spec.known_rows self.now }
+    {
+        match self {
+            Source::Database { .. } => None,
+            _ => Some(self.known()),
         }
     }
 

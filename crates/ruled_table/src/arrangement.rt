@@ -43,8 +43,8 @@ fn padded_to(
     Ok(padded)
 }
 
-// Rows of which row 0 has as many fields as the longest row.
-fn padded(alloc: Global, rows: Vec<StringRecord>) -> Result<Vec<StringRecord>, AllocError>
+/// Rows of which row 0 has as many fields as the longest row. Only memory can fail.
+pub fn padded(alloc: Global, rows: Vec<StringRecord>) -> Result<Vec<StringRecord>, AllocError>
     ensures { IfOk result (λ padded. map fields_of padded.items ≡ spec.padded (map fields_of rows.items)) }
 {
     if rows.is_empty() {
@@ -87,8 +87,9 @@ fn columns_named(names: &[String], rows: &[StringRecord]) -> usize
     }
 }
 
-// Rows with these names in front of them, if there are names.
-fn named(
+/// Rows with these names above them, if there are names, and empty ones above further columns of row 0. Only memory can
+/// fail.
+pub fn named(
     alloc: Global,
     names: &[String],
     rows: Vec<StringRecord>,
