@@ -20,6 +20,7 @@ mod price_list;
 mod record_blocks;
 mod rows;
 mod samples;
+mod shifts;
 mod streamed_rows;
 mod timetable;
 mod titled;
@@ -33,13 +34,15 @@ use std::io::{BufRead, Lock};
 use std::process::ExitCode;
 
 // The programs that read no input.
-const NAMES: [&str; 14] = [
+const NAMES: [&str; 16] = [
     "price_list",
     "invoice",
     "titled",
     "lunch",
     "dinner",
     "bill",
+    "shifts",
+    "shifts_page",
     "files",
     "record_blocks",
     "levels",
@@ -107,6 +110,8 @@ fn table_of(alloc: Global, name: &str) -> Result<String, Fault> {
         "lunch" => menu::lunch(alloc),
         "dinner" => menu::dinner(alloc),
         "bill" => bill::bill(alloc),
+        "shifts" => shifts::list(alloc),
+        "shifts_page" => shifts::page(alloc),
         "files" => files::files(alloc),
         "record_blocks" => record_blocks::blocks(alloc),
         "levels" => levels::log(alloc),

@@ -16,4 +16,6 @@ pub mod RaisedWidths
 pub mod ToldTables
 pub mod SpannedWidths
 pub mod FittedTables
+pub mod Html
+pub mod Rearranged
 pub mod Setters

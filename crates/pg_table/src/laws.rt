@@ -1,5 +1,6 @@
 //! Laws of natural sizes: the contracts of functions that do nothing are the laws.
 
+ghost use Rattle.pg_table.specs.Html.{TextsOpenNoTag};
 ghost use Rattle.pg_table.specs.Laws.{NaturalTablesHaveRoom, TotalsHoldSizes, PlainSizes, LooksAreNarrow};
 ghost use Rattle.pg_table.specs.ShownLaws.{NaturalHeightsShowAll};
 ghost use Rattle.pg_table.specs.WideningLaws.{CellsHaveRoom, NoColumnShrinks, NoColumnPassesItsCells, EnoughStays, AloneIsExact};
@@ -37,4 +38,9 @@ pub fn looks_are_narrow()
 /// shows each line of its texts: only a misfit keeps it from being printed whole.
 pub fn natural_heights_show_all()
     ensures { NaturalHeightsShowAll }
+{}
+
+/// No text of a cell can begin or end a tag of HTML, or an attribute.
+pub fn texts_open_no_tag()
+    ensures { TextsOpenNoTag }
 {}

@@ -19,7 +19,7 @@ pub use crate::fitted::FittedTable;
 pub use crate::heights::heights_for;
 pub use crate::laws::{
     columns_are_widened_as_needed, looks_are_narrow, natural_heights_show_all,
-    natural_tables_have_room,
+    natural_tables_have_room, texts_open_no_tag,
 };
 pub use crate::natural::NaturalTable;
 pub use crate::overflow::Overflow;

@@ -17,12 +17,14 @@ use std::convert::AsStr;
 use std::marker::Model;
 
 mod crossings;
+mod html;
 mod lines;
 mod merging;
 mod rows;
 mod settings;
 mod spans;
 mod title;
+mod transposed;
 
 /// Rows of texts, drawn at their natural sizes: each column as wide as its widest cell, and each
 /// row as high as its highest one, paddings included. What a cell with a span lacks beside smaller

@@ -1,10 +1,11 @@
 //! Cells of a column that have one text, made one cell.
 
 ghost use Rattle.std.specs.Prelude.{◌≡◌, ◌<◌, ◌≤◌, ◌-◌, ℕ, length, Err, IfOk, IsOk, OnOk};
+ghost use Rattle.std.specs.List.{prefix_len, range_with_len};
 ghost use Rattle.pg_layout.specs.Records.{columns_of};
 ghost use Rattle.pg_table.specs.Even.{IsNarrowLook};
 ghost use Rattle.pg_table.specs.OwnRows.{texts_of};
-ghost use Rattle.pg_table.specs.Merging.{HasNoRuns, merged, rows_with, run_from, with_run, with_runs};
+ghost use Rattle.pg_table.specs.Merging.{HasNoRuns, has_text, merged, run_from, with_run, with_runs};
 
 use crate::fault::TableFault;
 use crate::table::Table;
@@ -48,28 +49,26 @@ impl<T: AsStr + Drop, A: Allocator> Table<T, A> {
         ensures nothing { HasNoRuns (texts_of T.text self.old) column → IsOk result }
         ensures narrow { IsNarrowLook self.old.config → IsNarrowLook self.new.config }
     {
-        let (rows, columns) = self.size();
-        if columns <= column {
+        if self.count_columns() <= column {
             return Ok(());
         }
-        merge_runs(&self.records, &mut self.config, rows, column)
+        merge_runs(&self.records, &mut self.config, column)
     }
 }
 
 // Makes one cell of each run of equal texts in a column, or of some of them if memory is refused.
+
 fn merge_runs<R: PeekableRecords + ExactRecords, A: Allocator + Clone>(
     records: &R,
     config: &mut SpannedConfig<A>,
-    rows: usize,
     column: usize,
 ) -> Result<(), AllocError>
-    requires rows { rows ≡ length (R.texts records.now) }
     requires column { column < R.columns records.now }
-    ensures spans { OnOk result (config.new ≡ record config.old { spans = with_runs (R.texts records.now) column rows config.old.spans }) }
+    ensures spans { OnOk result (config.new ≡ record config.old { spans = with_runs (R.texts records.now) column config.old.spans }) }
     ensures nothing { HasNoRuns (R.texts records.now) column → IsOk result }
     ensures narrow { IsNarrowLook config.old → IsNarrowLook config.new }
 {
-    for row in 0..rows {
+    for row in 0..records.count_rows() {
         merge_run(records, config, column, row)?;
     }
     Ok(())
@@ -84,7 +83,7 @@ fn merge_run<R: PeekableRecords + ExactRecords, A: Allocator + Clone>(
 ) -> Result<(), AllocError>
     requires column { column < R.columns records.now }
     requires row { row < length (R.texts records.now) }
-    ensures spans { OnOk result (config.new ≡ record config.old { spans = with_run (R.texts records.now) column row config.old.spans }) }
+    ensures spans { OnOk result (config.new ≡ record config.old { spans = with_run (R.texts records.now) column config.old.spans row }) }
     ensures nothing { run_from (R.texts records.now) column row ≤ 1 → IsOk result }
     ensures narrow { IsNarrowLook config.old → IsNarrowLook config.new }
 {
@@ -101,29 +100,26 @@ fn run_from<R: PeekableRecords + ExactRecords>(records: &R, column: usize, row: 
     requires row { row < length (R.texts records.now) }
     ensures { result ≡ run_from (R.texts records.now) column row }
 {
-    let rows = records.count_rows();
     let text = records.get_text(Position::new(row, column));
     if text.is_empty() || 0 < row && records.get_text(Position::new(row - 1, column)) == text {
         return 0;
     }
-    1 + rows_with(records, text, row + 1, rows, column)
+    rows_with(records, text, column, row)
 }
 
 // How many rows from the first one on have this text, up to the first one with another.
-#[tactic(auto, using(crate::proofs::Merging::rows_with_more))]
-fn rows_with<R: PeekableRecords>(
+#[tactic(auto, using(crate::proofs::Merging::one_row_more, crate::proofs::Merging::no_row_more, crate::proofs::Merging::no_row_left))]
+fn rows_with<R: PeekableRecords + ExactRecords>(
     records: &R,
     text: &str,
-    first: usize,
-    rows: usize,
     column: usize,
+    first: usize,
 ) -> usize
-    requires rows { rows ≡ length (R.texts records.now) }
     requires column { column < R.columns records.now }
-    requires first { first ≤ rows }
-    ensures count { result ≡ rows_with (R.texts records.now) column text.now first (rows - first) }
-    ensures within { result ≤ rows - first }
+    requires first { first ≤ length (R.texts records.now) }
+    ensures { result ≡ prefix_len (has_text (R.texts records.now) column text.now) (range_with_len first (length (R.texts records.now) - first)) }
 {
+    let rows = records.count_rows();
     for row in first..rows {
         if records.get_text(Position::new(row, column)) != text {
             return row - first;

@@ -1,12 +1,13 @@
-//! The rows of a table: how many there are, and one more.
+//! The rows of a table: how many there are, one more, and their texts.
 
-ghost use Rattle.std.specs.Prelude.{◌≡◌, ◌++◌, ◌∷◌, [], ℕ, length, None, Some, Err, OnErr, OnOk};
-ghost use Rattle.pg_layout.specs.Records.{columns_of, ragged_row};
+ghost use Rattle.std.specs.Prelude.{◌≡◌, ◌&&◌, ◌++◌, ◌∷◌, [], ℕ, is_some, length, nat_lt, None, Some, Err, IfSome, OnErr, OnOk};
+ghost use Rattle.pg_layout.specs.Records.{columns_of, ragged_row, text_at};
 ghost use Rattle.pg_table.specs.Even.{IsNarrowLook};
+ghost use Rattle.pg_table.specs.OwnRows.{texts_of};
 
 use crate::fault::TableFault;
 use crate::table::Table;
-use pg_layout::PushFault;
+use pg_layout::{PeekableRecords, Position, PushFault, VecRecords};
 use std::alloc::Allocator;
 use std::convert::AsStr;
 
@@ -50,5 +51,25 @@ impl<T: AsStr + Drop, A: Allocator> Table<T, A> {
         ensures { result ≡ columns_of self.now.rows }
     {
         self.size().1
+    }
+
+    /// The text of a cell, or `None` for a place outside of the table.
+    pub fn text(&self, pos: Position) -> Option<&str>
+        ensures inside { is_some result ≡ (nat_lt pos.row (length self.now.rows) && nat_lt pos.col (columns_of self.now.rows)) }
+        ensures text { IfSome result (λ text. text.now ≡ text_at (texts_of T.text self.now) pos) }
+    {
+        let (rows, columns) = self.size();
+        if pos.row < rows && pos.col < columns {
+            Some(self.records.get_text(pos))
+        } else {
+            None
+        }
+    }
+
+    /// The rows themselves, as records: for `iter_rows`, or for another printer.
+    pub fn records(&self) -> &VecRecords<T, A>
+        ensures { result.now ≡ self.now.rows }
+    {
+        &self.records
     }
 }
