@@ -1,6 +1,7 @@
 //! Facts about single values, which no section can write: what lines, widths, colours, values by place and records
 //! are, what the cases are made with, and what `pgshow` does where no script can say it.
 
+pub(crate) mod calls;
 pub(crate) mod colors;
 pub(crate) mod endings;
 pub(crate) mod failing;
@@ -57,6 +58,8 @@ pub(crate) fn check_values(alloc: Global, report: &mut Report) -> Result<(), Cas
     places::check_places(alloc, report)?;
     pushed::check_pushed(alloc, report)?;
     given::check_given(alloc, report)?;
+    let checked = calls::check_calls(alloc, report);
+    report.take(0, "calls of tables", checked);
     failing::check_failing(alloc, report);
     endings::check_endings(alloc, report)?;
     scripts::check_scripts(alloc, report)

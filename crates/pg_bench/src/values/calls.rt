@@ -1,0 +1,143 @@
+//! What becomes of tables by calls that merge, rearrange or export them, as it was worked out by hand.
+
+use crate::fault::CaseFault;
+use crate::values::Fact;
+use pg_layout::{AlignmentHorizontal, ExactRecords, Position};
+use pg_table::{Table, TableFault};
+use pg_testing::refusing::Refusing;
+use pg_testing::report::Report;
+use pg_testing::trial::{Outcome, Trial};
+use std::alloc::{Allocator, Global};
+
+/// Calls of a table.
+#[derive(Clone, Copy)]
+enum Call {
+    /// Runs of equal texts in a column become one cell.
+    Merged(usize),
+    /// The columns become rows.
+    Transposed,
+    /// HTML.
+    Html,
+    /// HTML of merged runs in column 0.
+    MergedHtml,
+    /// HTML of a panel above centred texts and others at the right.
+    PanelHtml,
+}
+
+/// Rows, a call, and the text of what it makes.
+struct Case {
+    name: &'static str,
+    rows: &'static [&'static [&'static str]],
+    call: Call,
+    text: &'static str,
+}
+
+const CASES: &[Case] = &[
+    Case {
+        name: "a run of equal texts becomes one cell",
+        rows: &[&["a", "1"], &["a", "2"], &["b", "3"]],
+        call: Call::Merged(0),
+        text: "+-+-+\n|a|1|\n+ +-+\n| |2|\n+-+-+\n|b|3|\n+-+-+",
+    },
+    Case {
+        name: "empty texts are no run and the last row ends one",
+        rows: &[&[""], &[""], &["x"], &["x"], &["y"], &["y"], &["y"]],
+        call: Call::Merged(0),
+        text: "+-+\n| |\n+-+\n| |\n+-+\n|x|\n+ +\n| |\n+-+\n|y|\n+ +\n| |\n+ +\n| |\n+-+",
+    },
+    Case {
+        name: "a column that is not there has no run",
+        rows: &[&["a"], &["a"]],
+        call: Call::Merged(1),
+        text: "+-+\n|a|\n+-+\n|a|\n+-+",
+    },
+    Case {
+        name: "columns become rows",
+        rows: &[&["a", "b"], &["c", "d"], &["e", "f"]],
+        call: Call::Transposed,
+        text: "+-+-+-+\n|a|c|e|\n+-+-+-+\n|b|d|f|\n+-+-+-+",
+    },
+    Case {
+        name: "no text of a cell is markup",
+        rows: &[&["<b>", "\"q\""], &["a & b", "é"]],
+        call: Call::Html,
+        text: "<table>\n<tr><td>&lt;b&gt;</td><td>&quot;q&quot;</td></tr>\n<tr><td>a &amp; b</td><td>é</td></tr>\n</table>",
+    },
+    Case {
+        name: "a merged cell has its rows",
+        rows: &[&["a", "1"], &["a", "2"]],
+        call: Call::MergedHtml,
+        text: "<table>\n<tr><td rowspan=\"2\">a</td><td>1</td></tr>\n<tr><td>2</td></tr>\n</table>",
+    },
+    Case {
+        name: "a panel has its columns and texts have their sides",
+        rows: &[&["Bill", ""], &["tea", "3"]],
+        call: Call::PanelHtml,
+        text: "<table>\n<tr><td class=\"center\" colspan=\"2\">Bill</td></tr>\n<tr><td class=\"center\">tea</td><td class=\"right\">3</td></tr>\n</table>",
+    },
+];
+
+// The text of what a call makes.
+fn text_of<A: Allocator + Copy>(alloc: A, case: &Case) -> Result<String<A>, TableFault> {
+    let mut rows = Vec::new(alloc);
+    for row in case.rows {
+        rows.push(row.to_vec(alloc)?)?;
+    }
+    let table = Table::new(alloc, rows)?;
+    match case.call {
+        Call::Merged(column) => table.with_merged_column(column)?.to_string(alloc),
+        Call::Transposed => table.transposed(alloc)?.to_string(alloc),
+        Call::MergedHtml => Ok(table.with_merged_column(0)?.to_html(alloc)?),
+        Call::PanelHtml => {
+            let table = table
+                .with_alignment(AlignmentHorizontal::Center)
+                .with_column_alignment(1, AlignmentHorizontal::Right)?
+                .with_panel(0)?;
+            Ok(table.to_html(alloc)?)
+        }
+        _ => Ok(table.to_html(alloc)?),
+    }
+}
+
+/// A call whose requests for memory are refused in turn.
+struct Refused<'c> {
+    case: &'c Case,
+    alloc: Global,
+}
+
+impl Trial for Refused<'_> {
+    fn outcome(&mut self, number: u64) -> Outcome {
+        let memory = Refusing::from_on(self.alloc, number);
+        match (text_of(&memory, self.case), memory.has_refused()) {
+            (Ok(text), false) if text.as_str() == self.case.text => Outcome::Whole,
+            (Err(TableFault::Memory), true) => Outcome::Failed,
+            _ => Outcome::Wrong,
+        }
+    }
+}
+
+// What a call makes, and that it reports each request for memory that is refused.
+fn check_case(alloc: Global, case: &Case, report: &mut Report) {
+    let mut fact = Fact::new(report, case.name);
+    let text = text_of(alloc, case).ok();
+    fact.same(text.as_deref(), Some(case.text));
+    fact.holds(Refused { case, alloc }.failures().is_ok());
+}
+
+fn a_table_gives_its_texts(alloc: Global, report: &mut Report) -> Result<(), CaseFault> {
+    let mut fact = Fact::new(report, "a table gives its texts");
+    let table = Table::new(alloc, vec![in alloc; vec![in alloc; "a", "b"]?]?)?;
+    fact.same(table.text(Position::new(0, 1)), Some("b"));
+    fact.same(table.text(Position::new(0, 2)), None);
+    fact.same(table.text(Position::new(1, 0)), None);
+    fact.same(table.records().count_rows(), 1);
+    Ok(())
+}
+
+/// All facts of this file.
+pub(crate) fn check_calls(alloc: Global, report: &mut Report) -> Result<(), CaseFault> {
+    for case in CASES {
+        check_case(alloc, case, report);
+    }
+    a_table_gives_its_texts(alloc, report)
+}
