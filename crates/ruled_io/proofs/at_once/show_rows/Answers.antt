@@ -13,8 +13,8 @@ pub returns-in_err-chosen-clause-draws : goal.returns-in_err-chosen-clause-draws
 returns-in_err-chosen-clause-draws g c =
     let all : List (List Text) = map fields_of c.args.rows.items in
     let options = c.args.options.now in
-    view-draws (table_text options all) (table_fault options all) (g.W.Write.contents c.args.out.now.writer) c.in_err-chosen.field-0.0 c.from_residual-in_err-chosen.result
-    (λ kept. ap (λ (w : Option ViewFault). option_or w (all_fault options (chosen_rows options all))) (c.in_err-chosen.ensures.fault kept)) c.from_residual-in_err-chosen.ensures.1
+    view-draws (table_text options all) (table_fault options all) (g.W.Write.contents c.args.out.now.writer) c.in_err-chosen.field-0.0 c.from_residual.result
+    (λ kept. ap (λ (w : Option ViewFault). option_or w (all_fault options (chosen_rows options all))) (c.in_err-chosen.ensures.fault kept)) c.from_residual.ensures.1
 
 pub returns-in_err-show_chosen-clause-draws : goal.returns-in_err-show_chosen-clause-draws
 returns-in_err-show_chosen-clause-draws g c =
