@@ -100,6 +100,7 @@ fn text_of<A: Allocator + Copy>(alloc: A, case: &Case) -> Result<String<A>, Tabl
 }
 
 /// A call whose requests for memory are refused in turn.
+#[derive(Clone, Copy)]
 struct Refused<'c> {
     case: &'c Case,
     alloc: Global,
