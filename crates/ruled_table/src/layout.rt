@@ -109,8 +109,8 @@ impl Layout {
     /// there are fewer. The rows stay as they are.
     ///
     /// The fault is that of the names of columns, or of the sizes of the first rows, in this order,
-    /// or out of memory. No row is copied if all are first ones, and have no text that is shown in
-    /// another form.
+    /// or out of memory. No row is copied if the first ones have no text that is shown in another
+    /// form.
     pub fn of_rows(
         alloc: Global,
         options: &Options,
@@ -121,28 +121,32 @@ impl Layout {
         ensures rows { map fields_of rows.new.items ≡ map fields_of rows.old.items }
         ensures fault { Tells (spec.layout_fault options.now (take count (map fields_of rows.old.items))) result }
     {
-        if rows.len() <= count && rows_stand(options, rows) {
-            return Layout::of_standing(alloc, options, rows);
+        if rows_stand(options, first_of(rows, count)) {
+            return Layout::of_standing(alloc, options, count, rows);
         }
         Layout::of_copies(alloc, options, first_of(rows, count))
     }
 
-    // The layout of these rows, each text of which is shown as it stands.
+    // The layout of so many first rows, each text of which is shown as it stands. Meanwhile a ruler
+    // is below them.
     fn of_standing(
         alloc: Global,
         options: &Options,
+        count: usize,
         rows: &mut Vec<StringRecord>,
     ) -> Result<Layout, ViewFault>
-        requires { map (map (shown_text options.now)) (map fields_of rows.old.items) ≡ map fields_of rows.old.items }
-        ensures layout { IfOk result (λ layout. plan_in layout ≡ spec.layout_of options.now (map fields_of rows.old.items)) }
+        requires { map (map (shown_text options.now)) (map fields_of (take count rows.old.items)) ≡ map fields_of (take count rows.old.items) }
+        ensures layout { IfOk result (λ layout. plan_in layout ≡ spec.layout_of options.now (map fields_of (take count rows.old.items))) }
         ensures rows { map fields_of rows.new.items ≡ map fields_of rows.old.items }
-        ensures fault { Tells (spec.layout_fault options.now (map fields_of rows.old.items)) result }
+        ensures fault { Tells (spec.layout_fault options.now (map fields_of (take count rows.old.items))) result }
     {
-        let places = places_of(alloc, &options.columns, rows)?;
-        let ruler = first_ruler(alloc, rows)?;
-        rows.push(ruler)?;
-        let layout = Layout::of_measured(alloc, options, places, rows);
-        rows.pop();
+        let first = first_of(rows, count);
+        let places = places_of(alloc, &options.columns, first)?;
+        let ruler = first_ruler(alloc, first)?;
+        let end = first.len();
+        rows.insert(end, ruler)?;
+        let layout = Layout::of_measured(alloc, options, places, first_of(rows, end + 1));
+        rows.remove(end);
         layout
     }
 
