@@ -1,0 +1,16 @@
+use Rattle.std.proofs.Common.{Err, Some, Option, ap, subst}
+use Rattle.ruled_sql.specs.declared.fault.SqlFault.{SqlFault}
+use Rattle.ruled_io.specs.Databases.{LacksAnswer, LacksAnswerOf}
+use Rattle.ruled_io.specs.declared.formats.Known.{Known}
+use Rattle.ruled_io.specs.declared.request.Selection.TheVariants.{Query as Select}
+use Rattle.ruled_io.proofs.Causes.{of_query}
+use Rattle.ruled_io.proofs.database.answer_rows.Goals as goal
+
+pub returns-in_err-query_rows-in-None-clause-cause : goal.returns-in_err-query_rows-in-None-clause-cause
+returns-in_err-query_rows-in-None-clause-cause c =
+    let query = c.args.query.now in
+    let bytes = c.args.bytes.now in
+    let found = c.in_err-query_rows-in-None.field-0.0 in
+    let lacks : LacksAnswer (Some (Select query)) bytes found =
+    subst (λ (it : Option Known). LacksAnswerOf it query bytes found) c.in-None.ensures (λ none. c.in_err-query_rows-in-None.ensures.none (ap (λ (fault : SqlFault). Err fault) none)) in
+    of_query (Some (Select query)) bytes found c.from_residual.result lacks c.from_residual.ensures.1
