@@ -189,8 +189,8 @@ draws-handed text more wrong old new found (Err fault) drawn is = subst (λ (f :
 pub draws-behind : {X : Type 0} (text more bytes : Text) (wrong : Option ViewFault) (old mid new : Option (List ℕ)) (result : Result X RunFault) → wrong ≡ None → Appends old mid text → bytes ≡ more
     → OnOk result (Appends mid new bytes) → OnErr result (Begins mid new bytes) → ((fault : RunFault) → result ≡ Err fault → is_of_write fault ≡ true) → Draws (text ++ more) wrong old new result
 draws-behind text more bytes wrong old mid new (Ok x) fine drawn is wrote begun failed = (fine, Appends-trans old mid new text more drawn (subst (Appends mid new) is wrote))
-draws-behind text more bytes wrong old mid new (Err fault) fine drawn is wrote begun failed =
-    draws-so (text ++ more) wrong old new (Err fault)
+draws-behind {X} text more bytes wrong old mid new (Err fault) fine drawn is wrote begun failed =
+    draws-so {X = X} (text ++ more) wrong old new (Err fault)
     (let (read, early) = of-write fault (failed fault refl) in (read, early, begins-behind old mid new text more drawn (subst (Begins mid new) is begun)))
 
 pub same-draws : {X : Type 0} (text same : Text) (wrong right : Option ViewFault) (old new : Option (List ℕ)) (result : Result X RunFault) → text ≡ same → wrong ≡ right → Draws text wrong old new result → Draws same right old new result
