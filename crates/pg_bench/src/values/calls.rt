@@ -108,10 +108,18 @@ struct Refused<'c> {
 
 impl Trial for Refused<'_> {
     fn outcome(&mut self, number: u64) -> Outcome {
-        let memory = Refusing::from_on(self.alloc, number);
-        match (text_of(&memory, self.case), memory.has_refused()) {
-            (Ok(text), false) if text.as_str() == self.case.text => Outcome::Whole,
-            (Err(TableFault::Memory), true) => Outcome::Failed,
+        self.made(&Refusing::from_on(self.alloc, number))
+    }
+}
+
+impl Refused<'_> {
+    // The call makes its text, or memory was refused.
+    fn made(&self, memory: &Refusing<Global>) -> Outcome {
+        let made = text_of(memory, self.case);
+        let has_refused = memory.has_refused();
+        match made {
+            Ok(text) if text.as_str() == self.case.text && !has_refused => Outcome::Whole,
+            Err(TableFault::Memory) if has_refused => Outcome::Failed,
             _ => Outcome::Wrong,
         }
     }
