@@ -43,7 +43,8 @@ const CASES: &[Case] = &[
         name: "empty texts are no run and the last row ends one",
         rows: &[&[""], &[""], &["x"], &["x"], &["y"], &["y"], &["y"]],
         call: Call::Merged(0),
-        text: "+-+\n| |\n+-+\n| |\n+-+\n|x|\n+ +\n| |\n+-+\n|y|\n+ +\n| |\n+ +\n| |\n+-+",
+        // Rows without a cell of their own have no height, so merged texts are on the lines between them.
+        text: "+-+\n| |\n+-+\n| |\n+-+\n+x+\n+-+\n+y+\n+ +\n+-+",
     },
     Case {
         name: "a column that is not there has no run",
