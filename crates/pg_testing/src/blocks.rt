@@ -33,8 +33,7 @@ impl<'a> Unfolding<'a> {
     // Takes the line of this number. One without a star ends the block before it.
     fn take(&mut self, number: usize, line: &'a str) -> Result<(), AllocError> {
         if let Some(line) = line.strip_prefix("* ") {
-            self.block.push((number, line))?;
-            return Ok(());
+            return self.block.push((number, line)).map_err(AllocError::from);
         }
         self.end_block()?;
         let (word, rest) = line.split_once(' ').unwrap_or((line, ""));
@@ -118,14 +117,10 @@ fn push_line(
     value: &str,
 ) -> Result<(), AllocError> {
     let mut text = String::from_str(alloc, line)?;
-    for (i, part) in value.split(", ").enumerate() {
-        let Some(mark) = MARKS.get(i) else {
-            break;
-        };
+    for (mark, part) in MARKS.iter().zip(value.split(", ")) {
         text = text.replace(alloc, mark, part)?;
     }
-    lines.push((number, text))?;
-    Ok(())
+    lines.push((number, text)).map_err(AllocError::from)
 }
 
 /// The lines of an input to be followed: those of a block once for each value.

@@ -54,10 +54,7 @@ fn without_brackets(alloc: Global, line: &str) -> Result<String, AllocError> {
 
 // What a line means.
 fn meaning(alloc: Global, line: &str) -> Result<String, AllocError> {
-    let mut text = String::new(alloc);
-    for c in line.chars() {
-        text.push(meant(c))?;
-    }
+    let text: String = line.chars().map(meant).collect(alloc)?;
     without_brackets(alloc, &text)
 }
 

@@ -5,27 +5,29 @@ use pg_layout::{Borders, HorizontalLine};
 
 /// The borders of a look.
 pub(crate) fn borders_named(name: &str) -> Result<Borders<char>, LineFault> {
-    match name {
-        "ascii" => Ok(Borders::ascii()),
-        "modern" => Ok(Borders::modern()),
-        "extended" => Ok(Borders::extended()),
-        "dots" => Ok(Borders::dots()),
-        "blank" => Ok(Borders::blank()),
-        "empty" => Ok(Borders::empty()),
-        "sharp" => Ok(Borders::sharp()),
-        "rounded" => Ok(Borders::rounded()),
-        "psql" => Ok(Borders::psql()),
-        "markdown" => Ok(Borders::markdown()),
-        _ => Err(LineFault::Unknown),
-    }
+    let borders = match name {
+        "ascii" => Borders::ascii(),
+        "modern" => Borders::modern(),
+        "extended" => Borders::extended(),
+        "dots" => Borders::dots(),
+        "blank" => Borders::blank(),
+        "empty" => Borders::empty(),
+        "sharp" => Borders::sharp(),
+        "rounded" => Borders::rounded(),
+        "psql" => Borders::psql(),
+        "markdown" => Borders::markdown(),
+        _ => return Err(LineFault::Unknown),
+    };
+    Ok(borders)
 }
 
 /// The line below the header of a look that has one.
 pub fn header_line_named(name: &str) -> Result<HorizontalLine<char>, LineFault> {
-    match name {
-        "psql" => Ok(HorizontalLine::psql()),
-        "sharp" => Ok(HorizontalLine::sharp()),
-        "markdown" => Ok(HorizontalLine::markdown()),
-        _ => Err(LineFault::Unknown),
-    }
+    let line = match name {
+        "psql" => HorizontalLine::psql(),
+        "sharp" => HorizontalLine::sharp(),
+        "markdown" => HorizontalLine::markdown(),
+        _ => return Err(LineFault::Unknown),
+    };
+    Ok(line)
 }

@@ -1,7 +1,7 @@
 //! Borders, the border of a cell and a row line, whose places have names.
 
 use crate::fault::LineFault;
-use crate::settings::parts::{color_of, glyph_of, named};
+use crate::settings::parts::{color_of, glyph_of};
 use crate::settings::words::Words;
 use pg_layout::{ANSIBuf, Border, Borders, HorizontalLine};
 use std::alloc::Allocator;
@@ -14,52 +14,55 @@ pub trait NamedPlaces<T> {
 
 impl<T> NamedPlaces<T> for Border<T> {
     fn place(&mut self, name: &str) -> Result<&mut Option<T>, LineFault> {
-        match name {
-            "top" => Ok(&mut self.top),
-            "bottom" => Ok(&mut self.bottom),
-            "left" => Ok(&mut self.left),
-            "right" => Ok(&mut self.right),
-            "top_left" => Ok(&mut self.top_left),
-            "top_right" => Ok(&mut self.top_right),
-            "bottom_left" => Ok(&mut self.bottom_left),
-            "bottom_right" => Ok(&mut self.bottom_right),
-            _ => Err(LineFault::Unknown),
-        }
+        let place = match name {
+            "top" => &mut self.top,
+            "bottom" => &mut self.bottom,
+            "left" => &mut self.left,
+            "right" => &mut self.right,
+            "top_left" => &mut self.top_left,
+            "top_right" => &mut self.top_right,
+            "bottom_left" => &mut self.bottom_left,
+            "bottom_right" => &mut self.bottom_right,
+            _ => return Err(LineFault::Unknown),
+        };
+        Ok(place)
     }
 }
 
 impl<T> NamedPlaces<T> for Borders<T> {
     fn place(&mut self, name: &str) -> Result<&mut Option<T>, LineFault> {
-        match name {
-            "top" => Ok(&mut self.top),
-            "top_left" => Ok(&mut self.top_left),
-            "top_right" => Ok(&mut self.top_right),
-            "top_intersection" => Ok(&mut self.top_intersection),
-            "bottom" => Ok(&mut self.bottom),
-            "bottom_left" => Ok(&mut self.bottom_left),
-            "bottom_right" => Ok(&mut self.bottom_right),
-            "bottom_intersection" => Ok(&mut self.bottom_intersection),
-            "horizontal" => Ok(&mut self.horizontal),
-            "left_intersection" => Ok(&mut self.left_intersection),
-            "right_intersection" => Ok(&mut self.right_intersection),
-            "intersection" => Ok(&mut self.intersection),
-            "left" => Ok(&mut self.left),
-            "right" => Ok(&mut self.right),
-            "vertical" => Ok(&mut self.vertical),
-            _ => Err(LineFault::Unknown),
-        }
+        let place = match name {
+            "top" => &mut self.top,
+            "top_left" => &mut self.top_left,
+            "top_right" => &mut self.top_right,
+            "top_intersection" => &mut self.top_intersection,
+            "bottom" => &mut self.bottom,
+            "bottom_left" => &mut self.bottom_left,
+            "bottom_right" => &mut self.bottom_right,
+            "bottom_intersection" => &mut self.bottom_intersection,
+            "horizontal" => &mut self.horizontal,
+            "left_intersection" => &mut self.left_intersection,
+            "right_intersection" => &mut self.right_intersection,
+            "intersection" => &mut self.intersection,
+            "left" => &mut self.left,
+            "right" => &mut self.right,
+            "vertical" => &mut self.vertical,
+            _ => return Err(LineFault::Unknown),
+        };
+        Ok(place)
     }
 }
 
 impl NamedPlaces<char> for HorizontalLine<char> {
     fn place(&mut self, name: &str) -> Result<&mut Option<char>, LineFault> {
-        match name {
-            "main" => Ok(&mut self.main),
-            "intersection" => Ok(&mut self.intersection),
-            "left" => Ok(&mut self.left),
-            "right" => Ok(&mut self.right),
-            _ => Err(LineFault::Unknown),
-        }
+        let place = match name {
+            "main" => &mut self.main,
+            "intersection" => &mut self.intersection,
+            "left" => &mut self.left,
+            "right" => &mut self.right,
+            _ => return Err(LineFault::Unknown),
+        };
+        Ok(place)
     }
 }
 
@@ -91,7 +94,9 @@ fn set_places<A: Copy, T: PlaceValue<A> + Drop, P: NamedPlaces<T>>(
         return Ok(());
     };
     for part in parts.split(' ') {
-        let (name, word) = named(part)?;
+        let Some((name, word)) = part.split_once('=') else {
+            return Err(LineFault::Unknown);
+        };
         let place = places.place(name)?;
         *place = T::of_word(alloc, word)?;
     }

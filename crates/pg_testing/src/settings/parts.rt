@@ -43,8 +43,3 @@ pub(crate) fn indent_of(word: &str) -> Result<Indent, LineFault> {
 pub(crate) fn number_of(word: &str) -> Result<usize, LineFault> {
     word.parse::<usize>().ok().ok_or(LineFault::Unknown)
 }
-
-/// The name of a place and its value, as `left` and `|` of `left=|`.
-pub(crate) fn named(word: &str) -> Result<(&str, &str), LineFault> {
-    word.split_once('=').ok_or(LineFault::Unknown)
-}
