@@ -5,7 +5,6 @@ pub mod Reading
 pub mod Tokens
 pub mod Definitions
 pub mod Values
-pub mod Encodings
 pub mod Tables
 pub mod Listings
 pub mod Words

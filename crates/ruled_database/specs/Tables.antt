@@ -10,8 +10,7 @@ use Rattle.sqlite_record.specs.Record.{decode}
 use Rattle.sqlite_value.specs.Order.{Row, column}
 use Rattle.sqlite_value.specs.declared.value.Value.{Value}
 use Rattle.sqlite_value.specs.declared.value.Value.TheVariants.{Int}
-use Rattle.ruled_database.specs.Values.{shown_text}
-use Rattle.ruled_database.specs.Encodings.{encoding_of, in_utf8}
+use Rattle.ruled_database.specs.Values.{shown_text, encoding_of, in_utf8}
 use Rattle.ruled_database.specs.Files.{page_count}
 use Rattle.ruled_database.specs.Reading.{Gives}
 use Rattle.ruled_database.specs.Reads.{Read, all}

@@ -3,7 +3,7 @@
 ghost use Rattle.std.specs.Prelude.{◌≡◌, ◌≤◌, length, slice_index, false, true, MatchOption, option_map, ⊤};
 ghost use Rattle.sqlite_pages.specs.PageMap.{IsUsableSize};
 ghost use Rattle.ruled_database.specs.Files as spec;
-ghost use Rattle.ruled_database.specs.Encodings.{encoding_of};
+ghost use Rattle.ruled_database.specs.Values.{encoding_of};
 ghost use Rattle.ruled_database.specs.Files.{has_encoding};
 
 use crate::encoding::Encoding;

@@ -141,6 +141,7 @@ fn stored_definition(alloc: Global, listed: Listed<'_>) -> Result<Definition, Da
 }
 
 // The rows of the table that begins at this page, with the names of its columns as row 0.
+#[tactic(auto, using(crate::proofs::Listing::lacks_added, crate::proofs::Listing::lacks_names))]
 fn rows_of(
     alloc: Global,
     file: File<'_>,
@@ -172,6 +173,7 @@ fn file_of(bytes: &[u8]) -> Result<File<'_>, DatabaseFault>
 }
 
 // The rows of an entry of the schema.
+#[tactic(auto, using(crate::proofs::Listing::lacks_by_definition, crate::proofs::Listing::lacks_by_rows))]
 fn entry_rows(
     alloc: Global,
     file: File<'_>,

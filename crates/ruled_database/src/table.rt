@@ -70,6 +70,7 @@ fn value_of<'v>(
 }
 
 // The texts of all columns.
+#[tactic(auto, using(crate::proofs::Tabling::text_more))]
 fn texts_of(
     alloc: Global,
     definition: &Definition,

@@ -3,7 +3,7 @@ use Rattle.std.proofs.lemmas.List.{map-append}
 use Rattle.csv.specs.Records.{fields_of}
 use Rattle.sqlite_record.specs.Record.{decode}
 use Rattle.sqlite_value.specs.Order.{Row}
-use Rattle.ruled_database.specs.Encodings.{encoding_of, in_utf8}
+use Rattle.ruled_database.specs.Values.{encoding_of, in_utf8}
 use Rattle.ruled_database.specs.Reading.{Gives, stored_of}
 use Rattle.ruled_database.specs.Tables.{texts_in, values_of}
 use Rattle.ruled_database.specs.Trees.{record_of}
