@@ -39,7 +39,8 @@ pub(crate) fn take<W: Allocator>(
     ensures filled { IfOk result (λ r. (ps : List Piece) →
         string_bytes out.new ++ join_with_byte 10 (filled width (slice_range text.now r.begin r.end) ps)
         ≡ string_bytes out.old
-        ++ join_with_byte 10 (filled width (slice_range text.now line.begin line.end) (record { gap = slice_range text.now line.end piece.begin; text = slice_range text.now piece.begin piece.end } ∷ ps))) }
+        ++ join_with_byte 10 (filled width (slice_range text.now line.begin line.end)
+        (record { gap = slice_range text.now line.end piece.begin; text = slice_range text.now piece.begin piece.end } ∷ ps))) }
 {
     if line.begin == piece.begin {
         return Ok(line_of(text, piece));
@@ -81,7 +82,8 @@ pub(crate) fn take_characters<W: Allocator>(
     ensures filled { IfOk result (λ r. (ps : List Piece) →
         string_bytes out.new ++ join_with_byte 10 (filled width (slice_range text.now r.begin r.end) ps)
         ≡ string_bytes out.old
-        ++ join_with_byte 10 (filled width (slice_range text.now line.begin line.end) (characters (slice_range text.now line.end piece.begin) (graphemes true (slice_range text.now piece.begin piece.end)) ++ ps))) }
+        ++ join_with_byte 10 (filled width (slice_range text.now line.begin line.end)
+        (characters (slice_range text.now line.end piece.begin) (graphemes true (slice_range text.now piece.begin piece.end)) ++ ps))) }
 {
     let mut line = line;
     let mut end = piece.begin;
@@ -185,7 +187,8 @@ fn take_word<W: Allocator>(
     ensures filled { IfOk result (λ r. (ps : List Piece) →
         string_bytes out.new ++ join_with_byte 10 (filled width (slice_range text.now r.begin r.end) ps)
         ≡ string_bytes out.old
-        ++ join_with_byte 10 (filled width (slice_range text.now line.begin line.end) (parted width (record { gap = slice_range text.now line.end word.begin; text = slice_range text.now word.begin word.end }) ++ ps))) }
+        ++ join_with_byte 10 (filled width (slice_range text.now line.begin line.end)
+        (parted width (record { gap = slice_range text.now line.end word.begin; text = slice_range text.now word.begin word.end }) ++ ps))) }
 {
     if get_line_width(&text[word.begin..word.end]) <= width {
         take(text, width, line, word, out)

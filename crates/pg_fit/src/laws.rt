@@ -1,6 +1,8 @@
 //! Laws of texts within widths: the contracts of functions that do nothing are the laws.
 
-ghost use Rattle.pg_fit.specs.Laws.{LinesFit, NothingIsLost, OnlySpacesAreLost, FittingTextsStay, LinesStand, WrappedTextsFit, CutLinesFit, CutTextsStay, CutLinesStand, CutTextsFit, VisibleTextsStay, NoControlsAreLeft, SignsTakeOneColumn, FrontCutsFit, CutAwayLinesFit, CutAwayTextsStay, CutAwayLinesStand, CutAwayTextsFit, NoEscapesAreLeft, TextsWithoutEscapesStay, LineFeedsStay};
+ghost use Rattle.pg_fit.specs.Laws.{LinesFit, NothingIsLost, OnlySpacesAreLost, FittingTextsStay, LinesStand, WrappedTextsFit, CutLinesFit, CutTextsStay, CutLinesStand};
+ghost use Rattle.pg_fit.specs.Laws.{CutTextsFit, VisibleTextsStay, NoControlsAreLeft, SignsTakeOneColumn, FrontCutsFit, CutAwayLinesFit, CutAwayTextsStay};
+ghost use Rattle.pg_fit.specs.Laws.{CutAwayLinesStand, CutAwayTextsFit, NoEscapesAreLeft, TextsWithoutEscapesStay, LineFeedsStay};
 ghost use Rattle.std.specs.Prelude.{◌≡◌, ◌∷◌, ◌++◌, codes};
 ghost use Rattle.pg_fit.specs.CuttingAway.{cut_away_text};
 ghost use Rattle.pg_fit.specs.declared.cutting_away.Kept.TheVariants.{End, BothEnds};

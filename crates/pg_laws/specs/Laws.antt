@@ -17,7 +17,8 @@ use Rattle.pg_config.specs.Offsets.{no_offsets}
 use Rattle.pg_config.specs.Spans.{rect_rows, rect_columns, has_row_spans, Span, in_span}
 use Rattle.pg_picture.specs.Marks.{Mark, sep, line}
 use Rattle.pg_picture.specs.Pieces.{Piece, run, words, in_color, repeated, written, pieces_width, style_at, shown, block_line, Item, glyph, spaces, block, separator_text}
-use Rattle.pg_picture.specs.Table.{Table, Hint, Known, Unknown, rect_marks, rect_width, rect_height, block_at, vertical, row_part, line_of_row, crossing_at, horizontal_items, column_items, separator_part, separator_items, mark_text, body_line, table_body}
+use Rattle.pg_picture.specs.Table.{Table, Hint, Known, Unknown, rect_marks, rect_width, rect_height, block_at, vertical, row_part, line_of_row, crossing_at}
+use Rattle.pg_picture.specs.Table.{horizontal_items, column_items, separator_part, separator_items, mark_text, body_line, table_body}
 use Rattle.pg_picture.specs.Rectangles.{IsOwner}
 use Rattle.pg_picture.specs.CompactLines.{CompactTable, Part, parts_after, compact_lines}
 use Rattle.pg_picture.specs.Fits.{body_height, spans_fit, totals_fit, cell_fits, owner_fits, misfit_of}

@@ -35,12 +35,14 @@ TheLatestCounts V = (entity : Entity) (value : V) (settings : Settings V) (p : P
 -- After a row line is set across so many columns, its horizontals have the line's glyph if it has one. All others have what they had.
 abbrev pub RowLineHorizontals : Type 0 → Type 0
 RowLineHorizontals G = (row columns : ℕ) (line : HorizontalLine G) (overrides : Overrides G) (p : Position)
-    → horizontal_override (with_row_line row columns line overrides) p ≡ (if (p.row == row) && nat_lt p.col columns then option_or line.main (horizontal_override overrides p) else horizontal_override overrides p)
+    → horizontal_override (with_row_line row columns line overrides) p ≡ (if (p.row == row) && nat_lt p.col columns then option_or line.main (horizontal_override overrides p)
+    else horizontal_override overrides p)
 
 -- Its crossings, which are one more than the columns if there are any, have the line's glyph for an end or for between two columns if it has one.
 abbrev pub RowLineCrossings : Type 0 → Type 0
 RowLineCrossings G = (row columns : ℕ) (line : HorizontalLine G) (overrides : Overrides G) (p : Position)
-    → crossing_override (with_row_line row columns line overrides) p ≡ (if (p.row == row) && (nat_lt 0 columns && nat_lt p.col (columns + 1)) then option_or (ends line.left line.intersection line.right p.col columns) (crossing_override overrides p) else crossing_override overrides p)
+    → crossing_override (with_row_line row columns line overrides) p ≡ (if (p.row == row) && (nat_lt 0 columns && nat_lt p.col (columns + 1))
+    then option_or (ends line.left line.intersection line.right p.col columns) (crossing_override overrides p) else crossing_override overrides p)
 
 -- Verticals have what they had.
 abbrev pub RowLineVerticals : Type 0 → Type 0
@@ -75,7 +77,8 @@ module _ {G : Type 0} (p : Position) (b : Border G) where
 abbrev pub ABorderHasItsParts : Type 0 → Type 0
 ABorderHasItsParts G = (p : Position) (b : Border G) → p.row < 2 ^ 64 - 1 → p.col < 2 ^ 64 - 1 → on_lines p b ≡ b
 
--- The border of the cell at p is set: the places round the cell are overridden with what it has for them, as far as they stand on lines that there are. All others, and those that it lacks, have what they had.
+-- The border of the cell at p is set: the places round the cell are overridden with what it has for them, as far as
+-- they stand on lines that there are. All others, and those that it lacks, have what they had.
 pub record BorderOverrides {G : Type 0} (p : Position) (b : Border G) (old : Overrides G) (q : Position) : Type 0 where
   pub horizontal : horizontal_override (with_border p b old) q ≡ option_or (border_horizontal p (on_lines p b) q) (horizontal_override old q)
   pub vertical : vertical_override (with_border p b old) q ≡ option_or (border_vertical p (on_lines p b) q) (vertical_override old q)

@@ -79,7 +79,9 @@ pub fn a_table_with_spans_and_paddings()
     } in
         let texts : List (List Text) = (codes "Papergrid" ∷ codes "is a library" ∷ codes "for print tables" ∷ codes "!" ∷ []) ∷ ([] ∷ codes "Just like this" ∷ [] ∷ [] ∷ []) ∷ [] in
         picture Known (table config 2 4 (17 ∷ 12 ∷ 16 ∷ 1 ∷ []) (1 ∷ 1 ∷ []) texts)
-        ≡ joined (codes "+-----------------+------------+----------------+-+" ∷ codes "|                 |is a library|for print tables|!|" ∷ codes "+    Papergrid    +------------+----------------+-+" ∷ codes "|                 |Just like this                 |" ∷ codes "+-----------------+------------+----------------+-+" ∷ []) }
+        ≡ joined (codes "+-----------------+------------+----------------+-+" ∷ codes "|                 |is a library|for print tables|!|"
+        ∷ codes "+    Papergrid    +------------+----------------+-+" ∷ codes "|                 |Just like this                 |"
+        ∷ codes "+-----------------+------------+----------------+-+" ∷ []) }
 {}
 
 /// The cell (1, 1) spans two rows and two columns. A line of its text is on the separator that it
@@ -110,7 +112,8 @@ pub fn a_rectangle_inside_a_table()
         ∷ (codes "1-0" ∷ text ∷ codes "1-2" ∷ codes "1-3" ∷ []) ∷ (codes "2-0" ∷ codes "2-1" ∷ codes "2-2" ∷ codes "2-3" ∷ [])
         ∷ (codes "3-0" ∷ codes "3-1" ∷ codes "3-2" ∷ codes "3-3" ∷ []) ∷ [] in
         picture Known (table config 4 4 (3 ∷ 3 ∷ 3 ∷ 3 ∷ []) (1 ∷ 2 ∷ 1 ∷ 1 ∷ []) texts)
-        ≡ joined (codes "+---+---+---+---+" ∷ codes "|0-0|0-1|0-2|0-3|" ∷ codes "+---+---+---+---+" ∷ codes "|1-0|  123  |1-3|" ∷ codes "|   |  345  |   |" ∷ codes "+---+  555  +---+" ∷ codes "|2-0|  333  |2-3|" ∷ codes "+---+---+---+---+" ∷ codes "|3-0|3-1|3-2|3-3|" ∷ codes "+---+---+---+---+" ∷ []) }
+        ≡ joined (codes "+---+---+---+---+" ∷ codes "|0-0|0-1|0-2|0-3|" ∷ codes "+---+---+---+---+" ∷ codes "|1-0|  123  |1-3|" ∷ codes "|   |  345  |   |"
+        ∷ codes "+---+  555  +---+" ∷ codes "|2-0|  333  |2-3|" ∷ codes "+---+---+---+---+" ∷ codes "|3-0|3-1|3-2|3-3|" ∷ codes "+---+---+---+---+" ∷ []) }
 {}
 
 /// The first column is one cell of three rows, and the second row has height 0. Its separator is
@@ -176,7 +179,12 @@ pub fn a_border_round_one_cell()
 /// The bars aren't part of the picture.
 #[tactic(auto, unfolding(crate::proofs::Computing::sample_words))]
 pub fn trims_at_the_bottom_right()
-    ensures { let config : Config = record plain { trim_vertical = for_all true; trim_horizontal = for_all true; alignment_vertical = for_all down.Bottom; alignment_horizontal = for_all across.Right } in
+    ensures { let config : Config = record plain {
+      trim_vertical = for_all true;
+      trim_horizontal = for_all true;
+      alignment_vertical = for_all down.Bottom;
+      alignment_horizontal = for_all across.Right;
+    } in
         picture Known (table config 1 1 (4 ∷ []) (3 ∷ []) (one (codes " " ++ 10 ∷ codes "  ab " ++ 10 ∷ 10 ∷ [])))
         ≡ joined (codes "    " ∷ codes "    " ∷ codes "  ab" ∷ []) }
 {}

@@ -103,7 +103,8 @@ where
         ensures appends { Appends buf.old buf.new result (items_after run.entry (crossing_at T.table.config T.table.rows T.table.columns pos
             ++ border_items T.table.config pos T.table.rows (T.table.width pos.col) (get_horizontal T.table.config pos T.table.rows))) }
         ensures color { IfOk result (λ after. after
-            ≡ last_color run.entry (crossing_at T.table.config T.table.rows T.table.columns pos ++ border_items T.table.config pos T.table.rows (T.table.width pos.col) (get_horizontal T.table.config pos T.table.rows))) }
+            ≡ last_color run.entry (crossing_at T.table.config T.table.rows T.table.columns pos
+            ++ border_items T.table.config pos T.table.rows (T.table.width pos.col) (get_horizontal T.table.config pos T.table.rows))) }
     {
         let run = self.push_crossing(run, buf, pos)?;
         self.pen().push_border(run, buf, pos, self.rows)

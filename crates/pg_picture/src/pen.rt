@@ -140,7 +140,8 @@ where
     /// Appends the lines of the top margin.
     pub fn push_top<A: Allocator>(self, buf: &mut String<A>) -> Result<(), AllocError>
         ensures { Appends buf.old buf.new result
-            (continued 0 (replicate T.table.config.margin.top.size (written (margin_line T.table.config.margin.top T.table.config.margin_offset.top T.table.config.margin_color.top self.entry.sheet.now.width)))) }
+            (continued 0 (replicate T.table.config.margin.top.size
+            (written (margin_line T.table.config.margin.top T.table.config.margin_offset.top T.table.config.margin_color.top self.entry.sheet.now.width)))) }
     {
         push_top_margin(buf, self.sheet.config, self.sheet.width)
     }
@@ -152,7 +153,8 @@ where
         is_first: bool,
     ) -> Result<(), AllocError>
         ensures { Appends buf.old buf.new result
-            (continued (lines_before is_first) (replicate T.table.config.margin.bottom.size (written (margin_line T.table.config.margin.bottom T.table.config.margin_offset.bottom T.table.config.margin_color.bottom self.entry.sheet.now.width)))) }
+            (continued (lines_before is_first) (replicate T.table.config.margin.bottom.size
+            (written (margin_line T.table.config.margin.bottom T.table.config.margin_offset.bottom T.table.config.margin_color.bottom self.entry.sheet.now.width)))) }
     {
         push_bottom_margin(buf, self.sheet.config, self.sheet.width, is_first)
     }

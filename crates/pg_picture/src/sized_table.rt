@@ -49,7 +49,8 @@ where
     /// The first cell, row by row, that fails.
     pub(crate) fn first_failing<T: CellTest>(&self) -> Option<Position>
         ensures { result
-            ≡ first_failed (owner_passes T.test (table_of self.now.config.now (D.width self.now.dimension.now) (D.height self.now.dimension.now) (R.texts self.now.records.now) (R.columns self.now.records.now))) (places_from (length (R.texts self.now.records.now)) (R.columns self.now.records.now) 0) }
+            ≡ first_failed (owner_passes T.test (table_of self.now.config.now (D.width self.now.dimension.now) (D.height self.now.dimension.now) (R.texts self.now.records.now)
+            (R.columns self.now.records.now))) (places_from (length (R.texts self.now.records.now)) (R.columns self.now.records.now) 0) }
     {
         for row in 0..self.records.count_rows() {
             if let Some(failing) = self.failing_in_row::<T>(row) {
@@ -62,7 +63,8 @@ where
     fn failing_in_row<T: CellTest>(&self, row: usize) -> Option<Position>
         requires { row < length (R.texts self.now.records.now) }
         ensures { result
-            ≡ first_failed (owner_passes T.test (table_of self.now.config.now (D.width self.now.dimension.now) (D.height self.now.dimension.now) (R.texts self.now.records.now) (R.columns self.now.records.now))) (row_places (R.columns self.now.records.now) row 0) }
+            ≡ first_failed (owner_passes T.test (table_of self.now.config.now (D.width self.now.dimension.now) (D.height self.now.dimension.now) (R.texts self.now.records.now)
+            (R.columns self.now.records.now))) (row_places (R.columns self.now.records.now) row 0) }
     {
         // Shows that the spans are in order.
         let _spans = self.config.spans();
@@ -85,7 +87,8 @@ where
         requires left { is_left self.now.config.now.spans pos.row pos.col ≡ true }
         requires span { span ≡ left_span self.now.config.now.spans pos.row pos.col }
         ensures { result
-            ≡ owner_passes T.test (table_of self.now.config.now (D.width self.now.dimension.now) (D.height self.now.dimension.now) (R.texts self.now.records.now) (R.columns self.now.records.now)) pos }
+            ≡ owner_passes T.test (table_of self.now.config.now (D.width self.now.dimension.now) (D.height self.now.dimension.now) (R.texts self.now.records.now)
+            (R.columns self.now.records.now)) pos }
     {
         // Shows that the spans are in order.
         let _spans = self.config.spans();
@@ -107,7 +110,10 @@ where
         requires column { pos.col < R.columns self.now.records.now }
         requires size { size_of self.now.config.now.spans pos ≡ size }
         ensures { result
-            ≡ T.test (style_at self.now.config.now pos) (text_at (R.texts self.now.records.now) pos) (rect_width (table_of self.now.config.now (D.width self.now.dimension.now) (D.height self.now.dimension.now) (R.texts self.now.records.now) (R.columns self.now.records.now)) pos) (rect_height (table_of self.now.config.now (D.width self.now.dimension.now) (D.height self.now.dimension.now) (R.texts self.now.records.now) (R.columns self.now.records.now)) pos) }
+            ≡ T.test (style_at self.now.config.now pos) (text_at (R.texts self.now.records.now) pos)
+            (rect_width (table_of self.now.config.now (D.width self.now.dimension.now) (D.height self.now.dimension.now) (R.texts self.now.records.now)
+            (R.columns self.now.records.now)) pos) (rect_height (table_of self.now.config.now (D.width self.now.dimension.now) (D.height self.now.dimension.now)
+            (R.texts self.now.records.now) (R.columns self.now.records.now)) pos) }
     {
         let columns = self.records.count_columns();
         let width = width_of_columns(self.config, self.dimension, pos, size.columns, columns);

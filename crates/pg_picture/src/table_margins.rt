@@ -85,7 +85,8 @@ pub fn push_bottom_margin<B: Allocator, A: Allocator>(
     is_first: bool,
 ) -> Result<(), AllocError>
     ensures { Appends buf.old buf.new result
-        (continued (lines_before is_first) (replicate config.now.margin.bottom.size (written (margin_line config.now.margin.bottom config.now.margin_offset.bottom config.now.margin_color.bottom width)))) }
+        (continued (lines_before is_first) (replicate config.now.margin.bottom.size
+        (written (margin_line config.now.margin.bottom config.now.margin_offset.bottom config.now.margin_color.bottom width)))) }
 {
     let margin = config.get_margin().bottom;
     let offset = config.get_margin_offset().bottom;

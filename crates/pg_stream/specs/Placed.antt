@@ -30,9 +30,11 @@ slots_of cells = map slot_of cells
 pub record IsPlaced (t : Table) (x : ℕ) (cell : Placed) : Type 0 where
   pub width : cell.width ≡ rect_width t (at cell.begun x)
   pub place : 0 < height_of_rect t.config t.height (at cell.begun x)
-      → cell.place ≡ place_of (facts_of (style_at t.config (at cell.begun x)).formatting cell.text) (style_at t.config (at cell.begun x)) cell.width (height_of_rect t.config t.height (at cell.begun x))
+      → cell.place ≡ place_of (facts_of (style_at t.config (at cell.begun x)).formatting cell.text) (style_at t.config (at cell.begun x)) cell.width
+      (height_of_rect t.config t.height (at cell.begun x))
   pub room : 0 < height_of_rect t.config t.height (at cell.begun x)
-      → ((style_at t.config (at cell.begun x)).padding.left.size + (style_at t.config (at cell.begun x)).padding.right.size) + widest (style_at t.config (at cell.begun x)).formatting cell.text ≤ cell.width
+      → ((style_at t.config (at cell.begun x)).padding.left.size + (style_at t.config (at cell.begun x)).padding.right.size)
+      + widest (style_at t.config (at cell.begun x)).formatting cell.text ≤ cell.width
 
 -- each open cell, by its column
 abbrev pub AllOpen : (ℕ → Placed → Type 0) → List (Option Placed) → Type 0

@@ -137,7 +137,8 @@ where
         ensures bound { HasPlainTail how.entry
             → IfOk result (λ fitted. full_width (printed_fitted_table R.texts R.columns C.color fitted) ≤ max width (least_width_of how.entry R.texts R.columns (natural_parts self.now))) }
         ensures limits { HasPlainTail how.entry
-            → IfOk result (λ fitted. (k : ℕ) → k < R.columns self.now.records → (printed_fitted_table R.texts R.columns C.color fitted).width k ≤ max (least_at how.entry R.texts R.columns (natural_parts self.now) k) (limit_of limits.now k)) }
+            → IfOk result (λ fitted. (k : ℕ) → k < R.columns self.now.records → (printed_fitted_table R.texts R.columns C.color fitted).width k
+            ≤ max (least_at how.entry R.texts R.columns (natural_parts self.now) k) (limit_of limits.now k)) }
         ensures fault { (fault : TableFault) → fit_fault_of R.texts R.columns (natural_parts self.now) ≡ Some fault → result ≡ Err fault }
         ensures memory { (fault : TableFault) → fit_fault_of R.texts R.columns (natural_parts self.now) ≡ None → result ≡ Err fault → fault ≡ TableFault.Memory }
         ensures empty { is_empty (printed_table_of R.texts R.columns C.color (natural_parts self.now)) ≡ true → IsOk result }
@@ -175,7 +176,8 @@ where
             → IsNarrowOf within.now.total within.now.limits.now R.texts R.columns (natural_parts self.now) → IsOk result }
         ensures records { records.new.records ≡ records.old.records }
         ensures fits { IfOk result
-            (λ widths. IsFitted within.now.how within.now.total within.now.limits.now self.now.config.now (R.texts self.now.records) (R.columns self.now.records) widths.items (other_text records.new.others (R.texts self.now.records))) }
+            (λ widths. IsFitted within.now.how within.now.total within.now.limits.now self.now.config.now (R.texts self.now.records) (R.columns self.now.records) widths.items
+            (other_text records.new.others (R.texts self.now.records))) }
     {
         if self.keeps_spans() {
             return self.fit_spanned(alloc, within, records);

@@ -310,7 +310,8 @@ impl<'a, R: PeekableRecords + ExactRecords, B: Allocator> NaturalSizes<'a, R, B>
     fn row_fits(&self, row: usize) -> bool
         requires { row < length (R.texts self.now.records) }
         ensures { result
-            ≡ list_all (λ c. not (is_visible self.now.config.now.spans (at row c)) || is_sized self.now.config.now (text_at (R.texts self.now.records)) (at row c)) (range_with_len 0 (R.columns self.now.records)) }
+            ≡ list_all (λ c. not (is_visible self.now.config.now.spans (at row c)) || is_sized self.now.config.now (text_at (R.texts self.now.records)) (at row c))
+            (range_with_len 0 (R.columns self.now.records)) }
     {
         for col in 0..self.records.count_columns() {
             if !self.place_fits(Position::new(row, col)) {

@@ -185,7 +185,8 @@ impl<'a, R: PeekableRecords + ExactRecords, B: Allocator> NaturalSizes<'a, R, B>
         requires own { (r : ℕ) → other_text fitted.old.others (R.texts self.now.records) (at r column) ≡ text_of R.texts R.columns self.now (at r column) }
         ensures records { fitted.new.records ≡ fitted.old.records }
         ensures fits { OnOk result
-            (FitsColumn how.entry self.now.config.now (text_of R.texts R.columns self.now) (rows_of R.texts R.columns self.now) column width (other_text fitted.old.others (R.texts self.now.records)) (other_text fitted.new.others (R.texts self.now.records))) }
+            (FitsColumn how.entry self.now.config.now (text_of R.texts R.columns self.now) (rows_of R.texts R.columns self.now) column width
+            (other_text fitted.old.others (R.texts self.now.records)) (other_text fitted.new.others (R.texts self.now.records))) }
     {
         for row in 0..self.count_cells(Axis::Columns) {
             self.fit_cell(alloc, how, width, Position::new(row, column), fitted)?;
@@ -206,7 +207,8 @@ impl<'a, R: PeekableRecords + ExactRecords, B: Allocator> NaturalSizes<'a, R, B>
         requires own { fitted.old.others ≡ [] }
         ensures records { fitted.new.records ≡ fitted.old.records }
         ensures fits { OnOk result
-            (AreFittedBelow within.now.how within.now.total within.now.limits.now self.now.config.now (R.texts self.now.records) (R.columns self.now.records) (R.columns self.now.records) (other_text fitted.new.others (R.texts self.now.records))) }
+            (AreFittedBelow within.now.how within.now.total within.now.limits.now self.now.config.now (R.texts self.now.records) (R.columns self.now.records)
+            (R.columns self.now.records) (other_text fitted.new.others (R.texts self.now.records))) }
     {
         let naturals = self.list(alloc, Axis::Columns)?;
         let widths = self.widths(alloc, within, &naturals)?;
@@ -240,7 +242,8 @@ impl<'a, R: PeekableRecords + ExactRecords, B: Allocator> NaturalSizes<'a, R, B>
             → IsOk result }
         ensures records { fitted.new.records ≡ fitted.old.records }
         ensures fits { OnOk result
-            (AreFittedBelow within.now.how within.now.total within.now.limits.now self.now.config.now (R.texts self.now.records) (R.columns self.now.records) (R.columns self.now.records) (other_text fitted.new.others (R.texts self.now.records))) }
+            (AreFittedBelow within.now.how within.now.total within.now.limits.now self.now.config.now (R.texts self.now.records) (R.columns self.now.records)
+            (R.columns self.now.records) (other_text fitted.new.others (R.texts self.now.records))) }
     {
         if self.count(Axis::Columns) == usize::MAX {
             return Err(TableFault::Totals);

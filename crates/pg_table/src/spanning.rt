@@ -100,7 +100,8 @@ impl<'a, R: PeekableRecords + ExactRecords, B: Allocator> NaturalSizes<'a, R, B>
         requires fit { spans_fit self.now.config.now.spans (length (R.texts self.now.records)) (R.columns self.now.records) ≡ true }
         requires column { column < R.columns self.now.records }
         ensures width { IfSome result (λ width. width
-            ≡ singles_width self.now.config.now (length (R.texts self.now.records)) (R.columns self.now.records) (least_cell_width how.entry self.now.config.now (text_at (R.texts self.now.records))) column) }
+            ≡ singles_width self.now.config.now (length (R.texts self.now.records)) (R.columns self.now.records)
+            (least_cell_width how.entry self.now.config.now (text_at (R.texts self.now.records))) column) }
         ensures huge { result ≡ None → HasHugeLeast how.entry self.now.config.now (R.texts self.now.records) (R.columns self.now.records) }
     {
         let mut width: usize = 0;
@@ -119,7 +120,8 @@ impl<'a, R: PeekableRecords + ExactRecords, B: Allocator> NaturalSizes<'a, R, B>
     ) -> Result<Option<Vec<usize, A>>, AllocError>
         requires { spans_fit self.now.config.now.spans (length (R.texts self.now.records)) (R.columns self.now.records) ≡ true }
         ensures widths { IfOk result (λ o. IfSome o (λ v. v.items
-            ≡ map (singles_width self.now.config.now (length (R.texts self.now.records)) (R.columns self.now.records) (least_cell_width how.entry self.now.config.now (text_at (R.texts self.now.records)))) (range_with_len 0 (R.columns self.now.records)))) }
+            ≡ map (singles_width self.now.config.now (length (R.texts self.now.records)) (R.columns self.now.records)
+            (least_cell_width how.entry self.now.config.now (text_at (R.texts self.now.records)))) (range_with_len 0 (R.columns self.now.records)))) }
         ensures huge { IfOk result (λ o. o ≡ None → HasHugeLeast how.entry self.now.config.now (R.texts self.now.records) (R.columns self.now.records)) }
     {
         let mut widths = Vec::with_capacity(alloc, self.count(Axis::Columns))?;
@@ -137,7 +139,8 @@ impl<'a, R: PeekableRecords + ExactRecords, B: Allocator> NaturalSizes<'a, R, B>
     fn least_need(&self, how: Overflow, span: Span) -> Option<Need>
         requires { span_fits (length (R.texts self.now.records)) (R.columns self.now.records) span ≡ true }
         ensures need { IfSome result (λ need. need
-            ≡ room_needed self.now.config.now (length (R.texts self.now.records)) (R.columns self.now.records) (least_cell_width how.entry self.now.config.now (text_at (R.texts self.now.records))) span) }
+            ≡ room_needed self.now.config.now (length (R.texts self.now.records)) (R.columns self.now.records)
+            (least_cell_width how.entry self.now.config.now (text_at (R.texts self.now.records))) span) }
         ensures sized { is_some result ≡ nat_lt (least_cell_width how.entry self.now.config.now (text_at (R.texts self.now.records)) (corner span)) (2 ^ 64) }
     {
         let (place, size) = span;
@@ -162,7 +165,8 @@ impl<'a, R: PeekableRecords + ExactRecords, B: Allocator> NaturalSizes<'a, R, B>
     ) -> Result<Option<Vec<Need, A>>, AllocError>
         requires { list_all (span_fits (length (R.texts self.now.records)) (R.columns self.now.records)) self.now.config.now.spans ≡ true }
         ensures needs { IfOk result (λ o. IfSome o (λ v. v.items
-            ≡ map (room_needed self.now.config.now (length (R.texts self.now.records)) (R.columns self.now.records) (least_cell_width how.entry self.now.config.now (text_at (R.texts self.now.records)))) self.now.config.now.spans)) }
+            ≡ map (room_needed self.now.config.now (length (R.texts self.now.records)) (R.columns self.now.records)
+            (least_cell_width how.entry self.now.config.now (text_at (R.texts self.now.records)))) self.now.config.now.spans)) }
         ensures sized { IfOk result (λ o. is_some o
             ≡ list_all (λ s. nat_lt (least_cell_width how.entry self.now.config.now (text_at (R.texts self.now.records)) (corner s)) (2 ^ 64)) self.now.config.now.spans) }
     {
@@ -271,7 +275,8 @@ impl<'a, R: PeekableRecords + ExactRecords, B: Allocator> NaturalSizes<'a, R, B>
             (other_text fitted.old.others (R.texts self.now.records)) }
         ensures records { fitted.new.records ≡ fitted.old.records }
         ensures fits { OnOk result
-            (AreFittedTo how.entry widths.now.0.items self.now.config.now (R.texts self.now.records) (R.columns self.now.records) (row + 1) 0 (other_text fitted.new.others (R.texts self.now.records))) }
+            (AreFittedTo how.entry widths.now.0.items self.now.config.now (R.texts self.now.records) (R.columns self.now.records) (row + 1) 0
+            (other_text fitted.new.others (R.texts self.now.records))) }
     {
         for col in 0..self.count(Axis::Columns) {
             self.fit_shown(alloc, how, widths, Position::new(row, col), fitted)?;
@@ -292,7 +297,8 @@ impl<'a, R: PeekableRecords + ExactRecords, B: Allocator> NaturalSizes<'a, R, B>
         requires own { fitted.old.others ≡ [] }
         ensures records { fitted.new.records ≡ fitted.old.records }
         ensures fits { OnOk result
-            (AreFittedTo how.entry widths.now.0.items self.now.config.now (R.texts self.now.records) (R.columns self.now.records) (length (R.texts self.now.records)) 0 (other_text fitted.new.others (R.texts self.now.records))) }
+            (AreFittedTo how.entry widths.now.0.items self.now.config.now (R.texts self.now.records) (R.columns self.now.records) (length (R.texts self.now.records)) 0
+            (other_text fitted.new.others (R.texts self.now.records))) }
     {
         for row in 0..self.count(Axis::Rows) {
             self.fit_row(alloc, how, widths, row, fitted)?;
@@ -350,7 +356,8 @@ where
         ensures memory { (fault : TableFault) → fit_fault_of R.texts R.columns (natural_parts self.now) ≡ None → result ≡ Err fault → fault ≡ TableFault.Memory }
         ensures records { records.new.records ≡ records.old.records }
         ensures fits { IfOk result
-            (λ widths. AreFittedTogether within.now.how within.now.total within.now.limits.now self.now.config.now (R.texts self.now.records) (R.columns self.now.records) widths.items (other_text records.new.others (R.texts self.now.records))) }
+            (λ widths. AreFittedTogether within.now.how within.now.total within.now.limits.now self.now.config.now (R.texts self.now.records)
+            (R.columns self.now.records) widths.items (other_text records.new.others (R.texts self.now.records))) }
     {
         // Shows that the spans are in order.
         let _spans = self.config.spans();

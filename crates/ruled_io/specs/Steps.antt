@@ -61,7 +61,8 @@ module _ (options : Options) (plan : Plan) (rows : List (List Text)) (wrong : Op
   EndsBelow (Ok x) = (wrong ≡ None) × Grows (begun_text options plan above) (lines_in options plan rows wrong) old new
   EndsBelow (Err fault) =
       Nears (begun_text options plan above) (lines_in options plan rows wrong) old new
-      × (is_failure fault ≡ false → ((option_map Input wrong ≡ Some (but_line fault)) × Grows (begun_text options plan above) (lines_in options plan rows wrong) old new) ⊎ ((fault ≡ Input Totals) × StopsBelow))
+      × (is_failure fault ≡ false → ((option_map Input wrong ≡ Some (but_line fault)) × Grows (begun_text options plan above) (lines_in options plan rows wrong) old new)
+      ⊎ ((fault ≡ Input Totals) × StopsBelow))
 
 -- ---- rows that are all shown at once
 

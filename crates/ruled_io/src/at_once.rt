@@ -139,7 +139,8 @@ fn write_blocks<W: Write + Drop>(
     out: &mut Output<W>,
 ) -> Result<(), RunFault>
     ensures draws { (options : Options) (rows : List (List Text)) → HasNames options rows blocks.now
-        → DrawsInMemory (flat_map (record_block options rows) (map fields_of records.now)) (records_fault options rows (map fields_of records.now)) (W.contents out.old.writer) (W.contents out.new.writer) result }
+        → DrawsInMemory (flat_map (record_block options rows) (map fields_of records.now)) (records_fault options rows (map fields_of records.now)) (W.contents out.old.writer)
+        (W.contents out.new.writer) result }
     ensures told { TellsWrite (failure_of out.old) (failure_of out.new) result }
 {
     for fields in records {

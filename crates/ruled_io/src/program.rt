@@ -101,7 +101,8 @@ pub fn run<R: Read + Drop, W1: Write + Drop, W2: Write>(
     out: &mut Output<W1>,
     err: &mut W2,
 ) -> Ending
-    ensures shown { result.fault ≡ None → IfSome (left_in R.remaining input.old) (λ bytes. (text : _) × Shows request.now bytes text × Appends (written W1.contents out.old) (written W1.contents out.new) text) }
+    ensures shown { result.fault ≡ None → IfSome (left_in R.remaining input.old)
+        (λ bytes. (text : _) × Shows request.now bytes text × Appends (written W1.contents out.old) (written W1.contents out.new) text) }
     ensures cause { IfSome result.fault (λ fault. IfSome (left_in R.remaining input.old) (λ bytes. Caused request.now bytes fault (written W1.contents out.old) (written W1.contents out.new))) }
     ensures unwritten { request.now.rows ≡ Rows.AtOnce → IfSome result.fault (λ fault. is_early fault ≡ true → Keeps (written W1.contents out.old) (written W1.contents out.new)) }
     ensures failed { failure_of out.old ≡ None → failure_of out.new ≡ fault_written result.fault }

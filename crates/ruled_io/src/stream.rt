@@ -163,7 +163,8 @@ fn show_rows<R: Read + Drop, W: Write + Drop>(
     out: &mut Output<W>,
 ) -> Result<(), RunFault>
     ensures ends { (rest : List ℕ) → R.remaining pieces.old.input ≡ Some rest
-        → Ends options.now (first_count options.now format count) (sound_rows format (record_count count) (front.now ++ rest)) (wrong_in format (record_count count) (front.now ++ rest)) (W.contents out.old.writer) (W.contents out.new.writer) result }
+        → Ends options.now (first_count options.now format count) (sound_rows format (record_count count) (front.now ++ rest))
+        (wrong_in format (record_count count) (front.now ++ rest)) (W.contents out.old.writer) (W.contents out.new.writer) result }
     ensures told { TellsWrite (failure_of out.old) (failure_of out.new) result }
     ensures noted { ReportsRead (has_failed pieces.new) result }
 {

@@ -1,5 +1,6 @@
 -- The columns that are shown.
-use Rattle.std.specs.Prelude.{ℕ, ◌+◌, ◌-◌, ◌^◌, ◌==◌, ◌&&◌, not, nat_le, nat_lt, Bool, false, List, [], ◌∷◌, drop, length, find, map, position, slice_index_or, nat_eq, String, string_bytes, Option, Some, None, is_none, is_some, option_map, unwrap_or, if◌then◌else◌}
+use Rattle.std.specs.Prelude.{ℕ, ◌+◌, ◌-◌, ◌^◌, ◌==◌, ◌&&◌, not, nat_le, nat_lt, Bool, false, List, [], ◌∷◌, drop, length, find, map, position, slice_index_or, nat_eq}
+use Rattle.std.specs.Prelude.{String, string_bytes, Option, Some, None, is_none, is_some, option_map, unwrap_or, if◌then◌else◌}
 use Rattle.std.specs.List.{after_first, before_first, filter, flat_map, list_all, list_any, range_with_len}
 use Rattle.std.specs.Cmp.Lexicographic.{pointwise}
 use Rattle.std.specs.Option.{option_map_or, option_or}

@@ -1,5 +1,6 @@
 -- Columns in the middle of a table that are left out because a line has no room for them, and the column of `…` in their place.
-use Rattle.std.specs.Prelude.{ℕ, ◌+◌, ◌-◌, ◌*◌, ◌/◌, ◌%◌, ◌==◌, ◌&&◌, nat_le, nat_lt, max, min, List, [], ◌∷◌, ◌++◌, codes, decimal, drop, length, map, slice_index, sum_by, take, Option, Some, None, unwrap_or, if◌then◌else◌}
+use Rattle.std.specs.Prelude.{ℕ, ◌+◌, ◌-◌, ◌*◌, ◌/◌, ◌%◌, ◌==◌, ◌&&◌, nat_le, nat_lt, max, min, List, [], ◌∷◌, ◌++◌, codes, decimal, drop, length, map, slice_index}
+use Rattle.std.specs.Prelude.{sum_by, take, Option, Some, None, unwrap_or, if◌then◌else◌}
 use Rattle.std.specs.List.{position_or_len, range_with_len}
 use Rattle.pg_layout.specs.Text.{Text}
 use Rattle.pg_config.specs.Config.{Config, count_vertical}

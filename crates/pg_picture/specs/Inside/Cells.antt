@@ -96,7 +96,8 @@ abbrev pub HasRoomFor : Style → CellPlace → ℕ → ℕ → Text → Type 0
 HasRoomFor style place w i line =
     place.top ≤ i
     → i < place.top + place.shown
-    → ((style.padding.left.size + style.padding.right.size) + share_of style place.left w (width_of (trimmed_if style.formatting.horizontal_trim line))) + width_of (trimmed_if style.formatting.horizontal_trim line) ≤ w
+    → ((style.padding.left.size + style.padding.right.size) + share_of style place.left w (width_of (trimmed_if style.formatting.horizontal_trim line)))
+    + width_of (trimmed_if style.formatting.horizontal_trim line) ≤ w
 
 -- the line of this number, or an empty one
 abbrev pub line_if : Text → Option ℕ → Text

@@ -89,7 +89,8 @@ impl<'a, S: AsStr + Drop, D: Dimension, C: Colors, B: Allocator, A: Allocator> R
         ensures misfit { (p : _) → result ≡ Err (RowFault.Misfit p)
             → (p ≡ self.entry) × (buf.new ≡ buf.old) × ¬ (RowFits (printing D.width D.height C.color self.entry) (map S.text cells.items) is_last) }
         ensures memory { result ≡ Err RowFault.Memory
-            → RowFits (printing D.width D.height C.color self.entry) (map S.text cells.items) is_last × GainedBeginning buf.old buf.new (row_text (printing D.width D.height C.color self.entry) (map S.text cells.items) is_last) }
+            → RowFits (printing D.width D.height C.color self.entry) (map S.text cells.items) is_last
+            × GainedBeginning buf.old buf.new (row_text (printing D.width D.height C.color self.entry) (map S.text cells.items) is_last) }
         ensures whole { RowFits (printing D.width D.height C.color self.entry) (map S.text cells.items) is_last
             → Appends buf.old buf.new result (row_text (printing D.width D.height C.color self.entry) (map S.text cells.items) is_last) × ((p : _) → result ≢ Err (RowFault.Misfit p)) }
         ensures refused { ¬ (RowFits (printing D.width D.height C.color self.entry) (map S.text cells.items) is_last) → (result ≡ Err (RowFault.Misfit self.entry)) × (buf.new ≡ buf.old) }

@@ -85,7 +85,8 @@ impl<'a, D: Dimension, C: Colors, B: Allocator> Frame<'a, D, C, B> {
         requires span { span ≡ left_span self.now.sheet.config.now.spans pos.row pos.col }
         requires room { is_at (owner self.now.sheet.config.now.spans pos.row pos.col) pos.row pos.col ≡ true → HasRoom (bare_table D.width D.height C.color self.now.sheet) pos text.now }
         ensures { result
-            ≡ (not (is_at (owner self.now.sheet.config.now.spans pos.row pos.col) pos.row pos.col) || cell_shows_all (style_at self.now.sheet.config.now pos) text.now (height_of_rect self.now.sheet.config.now (D.height self.now.sheet.dimension.now) pos)) }
+            ≡ (not (is_at (owner self.now.sheet.config.now.spans pos.row pos.col) pos.row pos.col)
+            || cell_shows_all (style_at self.now.sheet.config.now pos) text.now (height_of_rect self.now.sheet.config.now (D.height self.now.sheet.dimension.now) pos)) }
     {
         // Shows that the spans are in order.
         let _spans = self.sheet.config.spans();

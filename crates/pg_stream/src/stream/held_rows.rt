@@ -115,7 +115,8 @@ impl<S: AsStr + Drop, A: Allocator, V: Allocator> HeldRows<'_, S, A, V> {
         ensures prints { (texts : List (List Text)) → AlwaysGives (λ x y. map S.text x.items ≡ y) I.next_gives rows texts
             → PrintsRows (streamed S.text T.table frame.now.hint self.entry).before (rows_left (streamed S.text T.table frame.now.hint self.entry) texts) buf.old buf.new result }
         ensures runs { SomeRun I.next_gives rows
-            (λ run. PrintsRun run.whole (streamed S.text T.table frame.now.hint self.entry).before (rows_left (streamed S.text T.table frame.now.hint self.entry) (map (λ row. map S.text row.items) run.items)) buf.old buf.new result) }
+            (λ run. PrintsRun run.whole (streamed S.text T.table frame.now.hint self.entry).before
+            (rows_left (streamed S.text T.table frame.now.hint self.entry) (map (λ row. map S.text row.items) run.items)) buf.old buf.new result) }
         ensures empty { self.entry.held ≡ None → AlwaysGives (λ x y. map S.text x.items ≡ y) I.next_gives rows [] → IsOk result × (buf.new ≡ buf.old) }
     {
         let mut room = [0; SEPARATOR_ROOM];
@@ -148,7 +149,8 @@ impl<S: AsStr + Drop, A: Allocator, V: Allocator> HeldRows<'_, S, A, V> {
             → AlwaysGives (λ x y. result_map_both (λ row. map S.text row.items) (λ error. error) x ≡ y) I.next_gives rows.old items
             → PrintsResults (streamed S.text T.table frame.now.hint self.entry) items buf.old buf.new result }
         ensures runs { SomeRun I.next_gives rows.old
-            (λ run. PrintsResultsRun run.whole (streamed S.text T.table frame.now.hint self.entry) (map (λ item. result_map_both (λ row. map S.text row.items) (λ error. error) item) run.items) buf.old buf.new result
+            (λ run. PrintsResultsRun run.whole (streamed S.text T.table frame.now.hint self.entry)
+            (map (λ item. result_map_both (λ row. map S.text row.items) (λ error. error) item) run.items) buf.old buf.new result
             × IsLeftAt I.next_gives rows.old run.items run.whole rows.new) }
         ensures empty { self.entry.held ≡ None
             → AlwaysGives (λ x y. result_map_both (λ row. map S.text row.items) (λ error. error) x ≡ y) I.next_gives rows.old []

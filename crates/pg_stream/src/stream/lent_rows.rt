@@ -51,7 +51,8 @@ impl<'a, S: AsStr + Drop, D: Dimension, C: Colors, B: Allocator, A: Allocator> L
         ensures after { OnOk result (living D.width D.height C.color self.new
             ≡ record { printed = after_row (living D.width D.height C.color self.old).printed (map X.text cells.now) false; is_lost = false }) }
         ensures prints { (living D.width D.height C.color self.old).is_lost ≡ false
-            → AppendsIf (LentFits (living D.width D.height C.color self.old).printed (map X.text cells.now)) (living D.width D.height C.color self.old).printed.rows (row_text (living D.width D.height C.color self.old).printed (map X.text cells.now) false) buf.old buf.new result }
+            → AppendsIf (LentFits (living D.width D.height C.color self.old).printed (map X.text cells.now)) (living D.width D.height C.color self.old).printed.rows
+            (row_text (living D.width D.height C.color self.old).printed (map X.text cells.now) false) buf.old buf.new result }
         ensures misfit { (row : ℕ) → result ≡ Err (StreamFault.Row row) → self.new ≡ self.old }
         ensures memory { result ≡ Err StreamFault.Memory → (living D.width D.height C.color self.new).is_lost ≡ true }
         ensures lost { (living D.width D.height C.color self.old).is_lost ≡ true → (result ≡ Err StreamFault.Memory) × (buf.new ≡ buf.old) }

@@ -132,7 +132,8 @@ impl<'a, S: AsStr + Drop, D: Dimension, C: Colors, B: Allocator, A: Allocator> L
         ensures after { OnOk result (living D.width D.height C.color self.new
             ≡ record { printed = after_row (living D.width D.height C.color self.old).printed (map S.text cells.items) false; is_lost = false }) }
         ensures prints { (living D.width D.height C.color self.old).is_lost ≡ false
-            → AppendsIf (RowFits (living D.width D.height C.color self.old).printed (map S.text cells.items) false) (living D.width D.height C.color self.old).printed.rows (row_text (living D.width D.height C.color self.old).printed (map S.text cells.items) false) buf.old buf.new result }
+            → AppendsIf (RowFits (living D.width D.height C.color self.old).printed (map S.text cells.items) false) (living D.width D.height C.color self.old).printed.rows
+            (row_text (living D.width D.height C.color self.old).printed (map S.text cells.items) false) buf.old buf.new result }
         ensures misfit { (row : ℕ) → result ≡ Err (StreamFault.Row row) → self.new ≡ self.old }
         ensures memory { result ≡ Err StreamFault.Memory → (living D.width D.height C.color self.new).is_lost ≡ true }
         ensures lost { (living D.width D.height C.color self.old).is_lost ≡ true → (result ≡ Err StreamFault.Memory) × (buf.new ≡ buf.old) }

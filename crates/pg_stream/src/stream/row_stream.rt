@@ -236,7 +236,8 @@ impl<
         ensures prints { (texts : List (List Text)) → AlwaysGives (λ x y. map S.text x.items ≡ y) I.next_gives rows texts
             → PrintsRows (streaming D.width D.height C.color self.entry).before (rows_left (streaming D.width D.height C.color self.entry) texts) buf.old buf.new result }
         ensures runs { SomeRun I.next_gives rows
-            (λ run. PrintsRun run.whole (streaming D.width D.height C.color self.entry).before (rows_left (streaming D.width D.height C.color self.entry) (map (λ row. map S.text row.items) run.items)) buf.old buf.new result) }
+            (λ run. PrintsRun run.whole (streaming D.width D.height C.color self.entry).before
+            (rows_left (streaming D.width D.height C.color self.entry) (map (λ row. map S.text row.items) run.items)) buf.old buf.new result) }
         ensures empty { (streaming D.width D.height C.color self.entry).held ≡ None → AlwaysGives (λ x y. map S.text x.items ≡ y) I.next_gives rows [] → IsOk result × (buf.new ≡ buf.old) }
     {
         let RowStream {
@@ -288,7 +289,8 @@ impl<
             → AlwaysGives (λ x y. result_map_both (λ row. map S.text row.items) (λ error. error) x ≡ y) I.next_gives rows.old items
             → PrintsResults (streaming D.width D.height C.color self.entry) items buf.old buf.new result }
         ensures runs { SomeRun I.next_gives rows.old
-            (λ run. PrintsResultsRun run.whole (streaming D.width D.height C.color self.entry) (map (λ item. result_map_both (λ row. map S.text row.items) (λ error. error) item) run.items) buf.old buf.new result
+            (λ run. PrintsResultsRun run.whole (streaming D.width D.height C.color self.entry)
+            (map (λ item. result_map_both (λ row. map S.text row.items) (λ error. error) item) run.items) buf.old buf.new result
             × IsLeftAt I.next_gives rows.old run.items run.whole rows.new) }
         ensures empty { (streaming D.width D.height C.color self.entry).held ≡ None
             → AlwaysGives (λ x y. result_map_both (λ row. map S.text row.items) (λ error. error) x ≡ y) I.next_gives rows.old []

@@ -144,10 +144,16 @@ impl<'a, S: AsStr + Drop, D: Dimension, C: Colors, B: Allocator, A: Allocator> S
         ensures appends { (heights : ℕ → ℕ) → IsNextHeight (living D.width (λ _. heights) C.color self.old).printed height
             → OnOk result (string_bytes buf.new ≡ string_bytes buf.old ++ row_text (living D.width (λ _. heights) C.color self.old).printed (map S.text cells.items) false) }
         ensures after { (heights : ℕ → ℕ) → IsNextHeight (living D.width (λ _. heights) C.color self.old).printed height
-            → OnOk result (living D.width (λ _. heights) C.color self.new ≡ record { printed = after_row (living D.width (λ _. heights) C.color self.old).printed (map S.text cells.items) false; is_lost = false }) }
+            → OnOk result (living D.width (λ _. heights) C.color self.new ≡ record {
+              printed = after_row (living D.width (λ _. heights) C.color self.old).printed
+                  (map S.text cells.items) false;
+              is_lost = false;
+            }) }
         ensures prints { (heights : ℕ → ℕ) → IsNextHeight (living D.width (λ _. heights) C.color self.old).printed height
             → (living D.width (λ _. heights) C.color self.old).is_lost ≡ false
-            → AppendsIf (RowFits (living D.width (λ _. heights) C.color self.old).printed (map S.text cells.items) false) (living D.width (λ _. heights) C.color self.old).printed.rows (row_text (living D.width (λ _. heights) C.color self.old).printed (map S.text cells.items) false) buf.old buf.new result }
+            → AppendsIf (RowFits (living D.width (λ _. heights) C.color self.old).printed (map S.text cells.items) false)
+            (living D.width (λ _. heights) C.color self.old).printed.rows (row_text (living D.width (λ _. heights) C.color self.old).printed
+            (map S.text cells.items) false) buf.old buf.new result }
         ensures misfit { (row : ℕ) → result ≡ Err (StreamFault.Row row) → self.new ≡ self.old }
         ensures memory { result ≡ Err StreamFault.Memory → (living D.width D.height C.color self.new).is_lost ≡ true }
         ensures lost { (living D.width D.height C.color self.old).is_lost ≡ true → (result ≡ Err StreamFault.Memory) × (buf.new ≡ buf.old) }
@@ -188,10 +194,15 @@ impl<'a, S: AsStr + Drop, D: Dimension, C: Colors, B: Allocator, A: Allocator> S
         ensures appends { (heights : ℕ → ℕ) → IsNextHeight (living D.width (λ _. heights) C.color self.old).printed 1
             → OnOk result (string_bytes buf.new ≡ string_bytes buf.old ++ row_text (living D.width (λ _. heights) C.color self.old).printed (map X.text cells.now) false) }
         ensures after { (heights : ℕ → ℕ) → IsNextHeight (living D.width (λ _. heights) C.color self.old).printed 1
-            → OnOk result (living D.width (λ _. heights) C.color self.new ≡ record { printed = after_row (living D.width (λ _. heights) C.color self.old).printed (map X.text cells.now) false; is_lost = false }) }
+            → OnOk result (living D.width (λ _. heights) C.color self.new ≡ record {
+              printed = after_row (living D.width (λ _. heights) C.color self.old).printed
+                  (map X.text cells.now) false;
+              is_lost = false;
+            }) }
         ensures prints { (heights : ℕ → ℕ) → IsNextHeight (living D.width (λ _. heights) C.color self.old).printed 1
             → (living D.width (λ _. heights) C.color self.old).is_lost ≡ false
-            → AppendsIf (LentFits (living D.width (λ _. heights) C.color self.old).printed (map X.text cells.now)) (living D.width (λ _. heights) C.color self.old).printed.rows (row_text (living D.width (λ _. heights) C.color self.old).printed (map X.text cells.now) false) buf.old buf.new result }
+            → AppendsIf (LentFits (living D.width (λ _. heights) C.color self.old).printed (map X.text cells.now)) (living D.width (λ _. heights) C.color self.old).printed.rows
+            (row_text (living D.width (λ _. heights) C.color self.old).printed (map X.text cells.now) false) buf.old buf.new result }
         ensures misfit { (row : ℕ) → result ≡ Err (StreamFault.Row row) → self.new ≡ self.old }
         ensures memory { result ≡ Err StreamFault.Memory → (living D.width D.height C.color self.new).is_lost ≡ true }
         ensures lost { (living D.width D.height C.color self.old).is_lost ≡ true → (result ≡ Err StreamFault.Memory) × (buf.new ≡ buf.old) }
