@@ -1,11 +1,10 @@
 //! The arguments of the program.
 
+use crate::source::{copy_of, is_padded, name_in, selected, source_asked, unstreamed};
 use clap::error::ErrorKind;
 use clap::{Arg, ArgAction, ArgMatches, Command};
 use pg_layout::AlignmentHorizontal;
-use ruled_io::{
-    Format, Kind, Known, Log, OneLine, Query, Request, RowRules, Rows, Selection, Source,
-};
+use ruled_io::{Kind, OneLine, Request, Rows, Source};
 use ruled_table::{Bounds, Breaking, Look, Options, Overflow};
 use std::alloc::{AllocError, Global};
 use std::env::VarError;
@@ -358,180 +357,6 @@ fn command<'a>(alloc: Global, looks: &'a [&'a str]) -> Result<Command<'a>, Alloc
         .args(arguments(alloc, looks)?)
 }
 
-// The sign that a word is: one byte of ASCII that is no quote and ends no line.
-fn sign_of(word: &str) -> Option<u8> {
-    match word.as_bytes() {
-        [b'"' | b'\r' | b'\n'] => None,
-        [byte] if byte.is_ascii() => Some(*byte),
-        _ => None,
-    }
-}
-
-// The delimiter that a word names: a sign, or a tab.
-fn delimiter_of(word: &str) -> Option<u8> {
-    if word == "tab" || word == "\\t" {
-        return Some(b'\t');
-    }
-    sign_of(word)
-}
-
-// The file that is named, where it isn't standard input.
-fn name_in<'m>(found: &'m ArgMatches) -> Option<&'m str> {
-    match found.get_str("file") {
-        Some("-") => None,
-        name => name,
-    }
-}
-
-// What the format is that is asked for, where one is.
-fn kind_asked(found: &ArgMatches) -> Result<Option<Kind>, &'static str> {
-    match found.get_str("format") {
-        Some(name) => Ok(Some(Kind::by_name(name).ok_or("no such format")?)),
-        None => Ok(None),
-    }
-}
-
-// What the extension of the file's name says of the input, if anything. A file of CSV may have any delimiter.
-fn source_in_name(found: &ArgMatches) -> Option<Source> {
-    let (_, extension) = name_in(found)?.rsplit_once('.')?;
-    match Kind::by_name(extension)? {
-        Kind::Rows(_) if extension == "csv" => Some(Source::Values {
-            rules: RowRules::PLAIN,
-        }),
-        Kind::Rows(format) => Some(Source::Rows(format)),
-        Kind::Database => Some(database(Selection::Tables)),
-    }
-}
-
-// Rows with this delimiter, unless another format is asked for.
-fn rows_with(delimiter: &str, asked: Option<Kind>) -> Result<Source, &'static str> {
-    let Some(delimiter) = delimiter_of(delimiter) else {
-        return Err("a delimiter is one ASCII character other than a quote, or the word tab");
-    };
-    match asked {
-        Some(Kind::Rows(Format::Json)) | Some(Kind::Rows(Format::JsonLines)) => {
-            Err("JSON has no delimiter")
-        }
-        Some(Kind::Database) => Err("a database has no delimiter"),
-        Some(Kind::Rows(Format::Separated(_))) | None => {
-            Ok(Source::Rows(Format::separated(delimiter, RowRules::PLAIN)))
-        }
-    }
-}
-
-// A database, of which it isn't known what is in its logs.
-fn database(selection: Selection) -> Source {
-    Source::Database {
-        selection,
-        log: Log::Unknown,
-    }
-}
-
-// What the input is, but for what is asked of a database: by what is asked for, by the file's name, or by its first
-// bytes.
-fn source_without_selection(
-    found: &ArgMatches,
-    asked: Option<Kind>,
-) -> Result<Source, &'static str> {
-    if let Some(delimiter) = found.get_str("delimiter") {
-        return rows_with(delimiter, asked);
-    }
-    Ok(match asked {
-        Some(Kind::Rows(format)) => Source::Rows(format),
-        Some(Kind::Database) => database(Selection::Tables),
-        None => source_in_name(found).unwrap_or(Source::Seen {
-            log: Log::Unknown,
-            rules: RowRules::PLAIN,
-        }),
-    })
-}
-
-// Whether row 0 is as long as the longest row.
-fn is_padded(found: &ArgMatches) -> bool {
-    found.get_str("ragged") == Some("pad")
-}
-
-// Whether it is asked for a table of a database, or why it can't be.
-fn is_of_table(found: &ArgMatches, asked: Option<Kind>) -> Result<bool, &'static str> {
-    if found.get_str("table").is_none() {
-        return Ok(false);
-    }
-    if found.get_str("query").is_some() {
-        return Err("--query takes no --table");
-    }
-    if found.get_str("delimiter").is_some() || matches!(asked, Some(Kind::Rows(_))) {
-        return Err("--table needs a database");
-    }
-    Ok(true)
-}
-
-// The byte that begins comments, if there are any.
-fn comment_asked(found: &ArgMatches) -> Result<Option<u8>, &'static str> {
-    let Some(word) = found.get_str("comment") else {
-        return Ok(None);
-    };
-    match sign_of(word) {
-        Some(sign) => Ok(Some(sign)),
-        None => Err("a comment begins with one ASCII character other than a quote"),
-    }
-}
-
-// Which lines are rows, and how long these may be.
-fn rules_asked(found: &ArgMatches) -> Result<RowRules, &'static str> {
-    Ok(RowRules {
-        is_ragged: found.get_str("ragged").is_some(),
-        skipped: found.get_one::<u32>("skip").unwrap_or(0) as usize,
-        comment: comment_asked(found)?,
-    })
-}
-
-// Whether an option is used that separated values alone have, as they have lines.
-fn asks_for_lines(found: &ArgMatches) -> bool {
-    found.get_one::<u32>("skip").is_some()
-        || found.get_str("comment").is_some()
-        || found.get_str("names").is_some()
-}
-
-// An input of separated values.
-fn separated(source: Source) -> Result<Source, &'static str> {
-    match source {
-        Source::Seen { rules, .. } => Ok(Source::Values { rules }),
-        Source::Values { .. } | Source::Rows(Format::Separated(_)) => Ok(source),
-        Source::Rows(_) | Source::Database { .. } => {
-            Err("--skip, --comment and --names need separated values")
-        }
-    }
-}
-
-// What the input is, but for the words of a query or a table, or why it can't be.
-fn source_asked(found: &ArgMatches) -> Result<Source, &'static str> {
-    let asked = kind_asked(found)?;
-    let mut source = source_without_selection(found, asked)?;
-    if is_of_table(found, asked)? {
-        source = database(Selection::Tables);
-    }
-    if asks_for_lines(found) {
-        source = separated(source)?;
-    }
-    source.set_rules(rules_asked(found)?);
-    Ok(source)
-}
-
-// Why the input can't be streamed, if it can't.
-fn unstreamed(found: &ArgMatches, source: &Source) -> Option<&'static str> {
-    found.get_one::<u32>("stream")?;
-    if found.get_str("query").is_some() {
-        return Some("--query needs all rows, so they can't be streamed");
-    }
-    if matches!(source, Source::Database { .. }) {
-        return Some("a database can't be streamed");
-    }
-    if is_padded(found) {
-        return Some("--ragged pad needs all rows, so it can't be streamed; --ragged cut can");
-    }
-    None
-}
-
 // What the table looks like.
 fn look_asked(found: &ArgMatches) -> Result<Look, &'static str> {
     if found.get_flag("markdown") {
@@ -643,14 +468,6 @@ fn bounds_of(
     Ok(bounds)
 }
 
-// A copy of a text, where there is one.
-fn copy_of(alloc: Global, text: Option<&str>) -> Result<Option<String>, AllocError> {
-    match text {
-        Some(text) => Ok(Some(String::from_str(alloc, text)?)),
-        None => Ok(None),
-    }
-}
-
 // Whether columns that have no room are left out: where that is asked for, or the output is a terminal.
 fn is_omitting(found: &ArgMatches, screen: Screen) -> bool {
     found.get_flag("omit") || (screen.is_output && !found.get_flag("no-omit"))
@@ -689,52 +506,6 @@ fn rows_of(found: &ArgMatches) -> Rows {
     match found.get_one::<u32>("stream") {
         Some(count) => Rows::FromFirst(count.max(1) as usize),
         None => Rows::AtOnce,
-    }
-}
-
-// The name of the table that has the rows of a file: that of the file, without its folder and its ending.
-fn table_named(file: Option<&str>) -> &str {
-    let Some(path) = file else {
-        return "input";
-    };
-    let name = path.rsplit_once('/').map_or(path, |(_, name)| name);
-    match name.rsplit_once('.') {
-        Some((stem, _)) if !stem.is_empty() => stem,
-        _ => name,
-    }
-}
-
-// A query of what is known so of its rows. Names above rows are those of the columns that it reads.
-fn query_of(
-    alloc: Global,
-    found: &ArgMatches,
-    text: String,
-    known: Option<Known>,
-    view: &mut Options,
-) -> Result<Query, AllocError> {
-    Ok(Query {
-        text,
-        known,
-        table: String::from_str(alloc, table_named(name_in(found)))?,
-        names: mem::replace(&mut view.names, Vec::new(alloc)),
-        is_padded: mem::replace(&mut view.is_padded, false),
-    })
-}
-
-// The source, with what is asked of it.
-fn selected(
-    alloc: Global,
-    found: &ArgMatches,
-    source: Source,
-    view: &mut Options,
-) -> Result<Source, AllocError> {
-    if let Some(text) = copy_of(alloc, found.get_str("query"))? {
-        let query = query_of(alloc, found, text, source.known_rows(), view)?;
-        return Ok(database(Selection::Query(query)));
-    }
-    match copy_of(alloc, found.get_str("table"))? {
-        Some(name) => Ok(database(Selection::Table(name))),
-        None => Ok(source),
     }
 }
 

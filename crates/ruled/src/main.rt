@@ -5,6 +5,7 @@
 mod arguments;
 mod compression;
 mod logs;
+mod source;
 mod waiting;
 
 use crate::arguments::{Asked, Wanted, read_arguments};
