@@ -5,13 +5,15 @@ use clap::error::ErrorKind;
 use clap::{Arg, ArgAction, ArgMatches, Command};
 use pg_layout::AlignmentHorizontal;
 use ruled_io::{Kind, OneLine, Request, Rows, Source};
-use ruled_table::{Bounds, Breaking, Look, Options, Overflow};
+use ruled_table::{Bounds, Breaking, Look, Options, Overflow, Vertical};
 use std::alloc::{AllocError, Global};
 use std::env::VarError;
 use std::io::IsTerminal;
 use std::{env, io, mem};
 
 static RAGGED: [&str; 2] = ["pad", "cut"];
+
+static WHEN: [&str; 2] = ["always", "auto"];
 
 static SIDES: [&str; 5] = ["auto", "left", "right", "centre", "center"];
 
@@ -61,6 +63,8 @@ enum Takes {
     Side,
     /// What happens to ragged rows.
     Ragged,
+    /// When something is done, behind `=`, or nothing.
+    When,
 }
 
 /// An argument of the command.
@@ -284,8 +288,10 @@ const CHOICES: [Choice; 29] = [
     },
     Choice {
         name: "vertical",
+        value: "WHEN",
+        takes: Takes::When,
         conflicts: &["no-header", "markdown"],
-        help: "Print each record as a block with one row for each field",
+        help: "Print each record as a block with one row for each field; auto: only if columns would be left out",
         ..FLAG
     },
     Choice {
@@ -334,6 +340,11 @@ fn argument<'a>(alloc: Global, choice: &Choice, looks: &'a [&'a str]) -> Arg<'a>
             .default_value("sharp"),
         Takes::Side => option(alloc, choice).value_parser(SIDES.as_slice()),
         Takes::Ragged => option(alloc, choice).value_parser(RAGGED.as_slice()),
+        Takes::When => option(alloc, choice)
+            .num_args(0..=1)
+            .require_equals(true)
+            .default_missing_value("always")
+            .value_parser(WHEN.as_slice()),
     }
 }
 
@@ -470,7 +481,17 @@ fn bounds_of(
 
 // Whether columns that have no room are left out: where that is asked for, or the output is a terminal.
 fn is_omitting(found: &ArgMatches, screen: Screen) -> bool {
-    found.get_flag("omit") || (screen.is_output && !found.get_flag("no-omit"))
+    let is_asked = found.get_flag("omit") || matches!(vertical_of(found), Vertical::IfOmitting);
+    is_asked || (screen.is_output && !found.get_flag("no-omit"))
+}
+
+// When rows are shown as blocks.
+fn vertical_of(found: &ArgMatches) -> Vertical {
+    match found.get_str("vertical") {
+        Some("auto") => Vertical::IfOmitting,
+        Some(_) => Vertical::Always,
+        None => Vertical::Never,
+    }
 }
 
 // How rows are shown.
@@ -493,7 +514,7 @@ fn view_of(
         tail: found.get_one::<u32>("tail"),
         ends: found.get_one::<u32>("ends"),
         is_counting: found.get_flag("count"),
-        is_vertical: found.get_flag("vertical"),
+        vertical: vertical_of(found),
         bounds: bounds_of(alloc, found, screen.columns)?,
         is_omitting: is_omitting(found, screen),
         is_raw: found.get_flag("raw"),

@@ -2,7 +2,7 @@
 
 use crate::words::{push_bytes, push_input, set_bytes, set_option, split_times};
 use ruled_io::{Format, Log, Output, Pieces, Request, RowRules, Rows, Source, run};
-use ruled_table::{Bounds, Breaking, Look, Options, Overflow};
+use ruled_table::{Bounds, Breaking, Look, Options, Overflow, Vertical};
 use std::alloc::{AllocError, Global};
 use std::io;
 
@@ -54,7 +54,7 @@ impl Case {
             tail: None,
             ends: None,
             is_counting: false,
-            is_vertical: false,
+            vertical: Vertical::Never,
             bounds: Bounds {
                 width: None,
                 limits: Vec::new(alloc),

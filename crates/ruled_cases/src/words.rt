@@ -2,7 +2,7 @@
 
 use pg_layout::AlignmentHorizontal;
 use ruled_io::{Format, Kind, Known, Log, Query, Request, RowRules, Rows, Selection, Source};
-use ruled_table::{Look, Options, Overflow};
+use ruled_table::{Look, Options, Overflow, Vertical};
 use std::alloc::{AllocError, Global};
 use std::mem;
 
@@ -133,6 +133,15 @@ fn set_rule(rules: &mut RowRules, name: &str, value: &str) -> Option<()> {
     Some(())
 }
 
+// When rows are shown as blocks: always, or if columns would be left out of their table.
+fn vertical_of(value: &str) -> Option<Vertical> {
+    match value {
+        "" => Some(Vertical::Always),
+        "auto" => Some(Vertical::IfOmitting),
+        _ => None,
+    }
+}
+
 // Sets one value, where there is an option of this name with this value.
 fn set_value(request: &mut Request, name: &str, value: &str) -> Option<()> {
     let view = &mut request.view;
@@ -144,7 +153,7 @@ fn set_value(request: &mut Request, name: &str, value: &str) -> Option<()> {
         "omit" => view.is_omitting = true,
         "count" => view.is_counting = true,
         "raw" => view.is_raw = true,
-        "vertical" => view.is_vertical = true,
+        "vertical" => view.vertical = vertical_of(value)?,
         "markdown" => {
             view.look = Look::Markdown;
             view.is_markdown = true;

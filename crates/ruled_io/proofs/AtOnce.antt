@@ -9,17 +9,19 @@ use Rattle.std.proofs.KnownBytes.{Appends-nil, Appends-trans, Keeps-refl}
 use Rattle.std.proofs.lemmas.Bool.{false≢true, true≢false}
 use Rattle.pg_layout.specs.Text.{Text}
 use Rattle.ruled_table.specs.Appended.{HasAppended}
-use Rattle.ruled_table.specs.Blocks.{record_block, record_fault, records_fault}
+use Rattle.ruled_table.specs.Blocks.{blocks_fault, blocks_text, record_block, record_fault, records_fault}
 use Rattle.ruled_table.specs.Faults as tables
 use Rattle.ruled_table.specs.Columns.{column_fault}
-use Rattle.ruled_table.specs.Layouts.{first_fault, layout_of, whole_text}
+use Rattle.ruled_table.specs.Layouts.{layout_fault, layout_of, start_fault, whole_text}
 use Rattle.ruled_table.specs.Arranged.{arranged, chosen_rows}
-use Rattle.ruled_table.specs.Plans.{Plan}
+use Rattle.ruled_table.specs.Plans.{Plan, is_always, is_in_blocks, leaves_columns_out}
 use Rattle.ruled_table.specs.RowLines.{begun_text}
-use Rattle.ruled_table.specs.View.{all_fault, table_fault, whole_fault, whole_table}
+use Rattle.ruled_table.specs.View.{all_fault, all_text, measured_fault, shows_blocks, table_fault, whole_fault, whole_table}
 use Rattle.ruled_table.specs.declared.fault.ViewFault.{ViewFault}
 use Rattle.ruled_table.specs.declared.fault.ViewFault.TheVariants as view
 use Rattle.ruled_table.specs.declared.options.Options.{Options}
+use Rattle.ruled_table.specs.declared.options.Vertical.{Vertical}
+use Rattle.ruled_table.specs.declared.options.Vertical.TheVariants.{Always, IfOmitting, Never}
 use Rattle.ruled_table.specs.declared.table_rows.TableRows.{TableRows}
 use Rattle.ruled_io.specs.Faults.{is_early, is_of_write, is_read, of_view}
 use Rattle.ruled_io.specs.Reading.{ReportsRead}
@@ -121,14 +123,52 @@ module _ (options : Options) (plan : Plan) (rows : List (List Text)) where
       let (more, is, begun) = nears-more (begun_text options plan []) (begun_text options plan rows) (whole_text options plan rows) old mid new wrote near in
       subst (Begins old new) (ap (λ (t : Text). t ++ more) (sym (begun-none options plan)) ∙ is) begun
 
--- where there is a row, its fault is that of first rows
-pub some-fault : (options : Options) (rows : List (List Text)) → 0 < length rows → whole_fault options rows ≡ first_fault options rows
-some-fault options [] some = absurd (omega (arith, some))
-some-fault options (row ∷ rows) some = refl
-
 -- of no rows nothing is drawn
-pub none-draws : (options : Options) (rows : List (List Text)) (old : Option (List ℕ)) → rows ≡ [] → (whole_fault options rows ≡ None) × Appends old old (whole_table options rows)
-none-draws options rows old none = rw none (refl, Appends-nil old)
+none-wrong : (v : Vertical) (options : Options) (turned : Bool) → option_or (measured_fault v options []) (if turned then blocks_fault options [] else whole_fault options []) ≡ None
+none-wrong Never options true = refl
+none-wrong Never options false = refl
+none-wrong IfOmitting options true = refl
+none-wrong IfOmitting options false = refl
+none-wrong Always options true = refl
+none-wrong Always options false = refl
+
+none-shown : (options : Options) (turned : Bool) → (if turned then blocks_text options [] else whole_table options []) ≡ []
+none-shown options true = refl
+none-shown options false = refl
+
+pub none-draws : (options : Options) (rows : List (List Text)) (old : Option (List ℕ)) → rows ≡ [] → (all_fault options rows ≡ None) × Appends old old (all_text options rows)
+none-draws options rows old none =
+    rw none (none-wrong options.vertical options (shows_blocks options []), subst (Appends old old) (sym (none-shown options (shows_blocks options []))) (Appends-nil old))
+
+-- blocks that are always shown
+always-by : (v : Vertical) (options : Options) (rows : List (List Text)) → is_always v ≡ true
+    → (blocks_text options rows ≡ (if is_in_blocks v (layout_of options rows) then blocks_text options rows else whole_table options rows))
+    × (blocks_fault options rows ≡ option_or (measured_fault v options rows) (if is_in_blocks v (layout_of options rows) then blocks_fault options rows else whole_fault options rows))
+always-by Never options rows always = absurd (false≢true always)
+always-by IfOmitting options rows always = absurd (false≢true always)
+always-by Always options rows always = (refl, refl)
+
+pub always-blocks : (options : Options) (rows : List (List Text)) → is_always options.vertical ≡ true → (blocks_text options rows ≡ all_text options rows) × (blocks_fault options rows ≡ all_fault options rows)
+always-blocks options rows always = always-by options.vertical options rows always
+
+-- of other rows what is wrong with their layout comes first
+once-wrong : {X : Type 0} (first : Option X) (turned : Bool) (blocks table : Option X) → option_or first (if turned then blocks else option_or first table) ≡ option_or first (if turned then blocks else table)
+once-wrong None true blocks table = refl
+once-wrong None false blocks table = refl
+once-wrong (Some x) turned blocks table = refl
+
+measured-by : (v : Vertical) (options : Options) (rows : List (List Text)) → 0 < length rows → is_always v ≡ false
+    → option_or (measured_fault v options rows) (if is_in_blocks v (layout_of options rows) then blocks_fault options rows else whole_fault options rows)
+    ≡ option_or (layout_fault options rows) (if is_in_blocks v (layout_of options rows) then blocks_fault options rows else start_fault (layout_of options rows))
+measured-by v options [] some never = absurd (omega (arith, some))
+measured-by Never options (row ∷ rows) some never = refl
+measured-by IfOmitting options (row ∷ rows) some never =
+    once-wrong (layout_fault options (row ∷ rows)) (leaves_columns_out (layout_of options (row ∷ rows))) (blocks_fault options (row ∷ rows)) (start_fault (layout_of options (row ∷ rows)))
+measured-by Always options (row ∷ rows) some never = absurd (true≢false never)
+
+pub measured-wrong : (options : Options) (rows : List (List Text)) → 0 < length rows → is_always options.vertical ≡ false
+    → all_fault options rows ≡ option_or (layout_fault options rows) (if shows_blocks options rows then blocks_fault options rows else start_fault (layout_of options rows))
+measured-wrong options rows some never = measured-by options.vertical options rows some never
 
 -- ---- blocks
 
@@ -166,12 +206,12 @@ module _ (options : Options) (names : List (List Text)) where
 
 -- ---- the table of all rows
 
-pub whole-draws : {X : Type 0} (options : Options) (plan : Plan) (given rows : List (List Text)) (old new : Option (List ℕ)) (result : Result X RunFault) → plan ≡ layout_of options given → rows ≡ given → whole_fault options given ≡ None
-    → DrawsInMemory (whole_text options plan rows) None old new result → Draws (whole_table options given) (whole_fault options given) old new result
-whole-draws options plan given rows old new result laid same none draws =
-    let text : whole_text options plan rows ≡ whole_table options given = ap (λ (p : Plan). whole_text options p rows) laid ∙ ap (whole_text options (layout_of options given)) same in
+pub whole-draws : {X : Type 0} (options : Options) (plan : Plan) (rows : List (List Text)) (wrong : Option ViewFault) (old new : Option (List ℕ)) (result : Result X RunFault) → plan ≡ layout_of options rows → wrong ≡ None
+    → DrawsInMemory (whole_text options plan rows) None old new result → Draws (whole_table options rows) wrong old new result
+whole-draws options plan rows wrong old new result laid none draws =
+    let text : whole_text options plan rows ≡ whole_table options rows = ap (λ (p : Plan). whole_text options p rows) laid in
     let so : Draws (whole_text options plan rows) None old new result = draws-so (whole_text options plan rows) None old new result draws in
-    subst (λ (w : Option ViewFault). Draws (whole_table options given) w old new result) (sym none) (subst (λ (t : Text). Draws t None old new result) text so)
+    subst (λ (w : Option ViewFault). Draws (whole_table options rows) w old new result) (sym none) (subst (λ (t : Text). Draws t None old new result) text so)
 
 -- where a text ends before its end, so does a longer one
 draws-longer : (text more : Text) (wrong : Option ViewFault) (old new : Option (List ℕ)) (fault : RunFault) → Draws text wrong old new {X = Unit {0}} (Err fault) → Draws (text ++ more) wrong old new {X = Unit {0}} (Err fault)

@@ -3,6 +3,7 @@ use Rattle.std.specs.Prelude.{◌≡◌, ◌≢◌, ◌≤◌, ℕ, false, List,
 use Rattle.pg_layout.specs.Text.{Text}
 use Rattle.ruled_table.specs.View.{table_fault}
 use Rattle.ruled_table.specs.declared.options.Options.{Options}
+use Rattle.ruled_table.specs.declared.options.Vertical.TheVariants.{Never}
 use Rattle.ruled_io.specs.Faults.{of_view}
 use Rattle.ruled_io.specs.Formats.{format_in}
 use Rattle.ruled_io.specs.Input.{input_fault, rows_in}
@@ -24,7 +25,7 @@ pub record ShowsEachRow (options : Options) : Type 0 where
   pub tail : options.tail ≡ None
   pub ends : options.ends ≡ None
   pub uncounted : options.is_counting ≡ false
-  pub vertical : options.is_vertical ≡ false
+  pub vertical : options.vertical ≡ Never
 
 module _ (request : Request) (count : ℕ) (bytes : List ℕ) where
   pub record AllAreFirst : Type 0 where

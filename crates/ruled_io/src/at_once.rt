@@ -8,10 +8,10 @@ ghost use Rattle.pg_layout.specs.Text.{Text};
 ghost use Rattle.ruled_table.specs.Appended.{HasAppended};
 ghost use Rattle.ruled_table.specs.Blocks.{blocks_fault, blocks_text, record_block, record_fault, records_fault};
 ghost use Rattle.ruled_table.specs.Columns.{column_fault};
-ghost use Rattle.ruled_table.specs.Layouts.{whole_text};
+ghost use Rattle.ruled_table.specs.Layouts.{layout_of, start_fault, whole_text};
 ghost use Rattle.ruled_table.specs.Named.{HasNames};
-ghost use Rattle.ruled_table.specs.Plans.{Plan};
-ghost use Rattle.ruled_table.specs.View.{all_fault, all_text, table_fault, table_text, whole_fault, whole_table};
+ghost use Rattle.ruled_table.specs.Plans.{Plan, is_always, plan_in};
+ghost use Rattle.ruled_table.specs.View.{all_fault, all_text, table_fault, table_text, whole_table};
 ghost use Rattle.ruled_io.specs.Faults.{is_early, is_read};
 ghost use Rattle.ruled_io.specs.Output.{TellsWrite, failure_of, write_part, Begins};
 ghost use Rattle.ruled_io.specs.Reading.{ReportsRead, has_failed};
@@ -98,22 +98,20 @@ fn write_whole<W: Write + Drop>(
     }
 }
 
-// Shows rows as one table.
-fn show_whole<W: Write + Drop>(
+// Shows the table of this layout.
+fn show_table<W: Write + Drop>(
     alloc: Global,
     options: &Options,
-    mut rows: Vec<StringRecord>,
+    layout: &Layout,
+    rows: &[StringRecord],
     out: &mut Output<W>,
 ) -> Result<(), RunFault>
-    ensures draws { Draws (whole_table options.now (map fields_of rows.items)) (whole_fault options.now (map fields_of rows.items)) (W.contents out.old.writer) (W.contents out.new.writer) result }
+    ensures draws { plan_in layout.now ≡ layout_of options.now (map fields_of rows.now)
+        → Draws (whole_table options.now (map fields_of rows.now)) (start_fault (layout_of options.now (map fields_of rows.now))) (W.contents out.old.writer) (W.contents out.new.writer) result }
     ensures told { TellsWrite (failure_of out.old) (failure_of out.new) result }
 {
-    if rows.is_empty() {
-        return Ok(());
-    }
-    let layout = Layout::of_rows(alloc, options, usize::MAX, &mut rows)?;
-    let table = TableRows::new(alloc, options, &layout)?;
-    write_whole(alloc, table, &rows, out)
+    let table = TableRows::new(alloc, options, layout)?;
+    write_whole(alloc, table, rows, out)
 }
 
 // Writes the block of a record. Texts in memory whose sizes can't be counted have no room there for a block.
@@ -174,6 +172,27 @@ fn show_blocks<W: Write + Drop>(
     write_blocks(&blocks, below_names(rows), out)
 }
 
+// Shows rows as one table, unless columns would be left out of it and blocks are asked for then.
+fn show_measured<W: Write + Drop>(
+    alloc: Global,
+    options: &Options,
+    mut rows: Vec<StringRecord>,
+    out: &mut Output<W>,
+) -> Result<(), RunFault>
+    ensures draws { column_fault options.now.columns.items (map fields_of rows.items) ≡ None → is_always options.now.vertical ≡ false
+        → Draws (all_text options.now (map fields_of rows.items)) (all_fault options.now (map fields_of rows.items)) (W.contents out.old.writer) (W.contents out.new.writer) result }
+    ensures told { TellsWrite (failure_of out.old) (failure_of out.new) result }
+{
+    if rows.is_empty() {
+        return Ok(());
+    }
+    let layout = Layout::of_rows(alloc, options, usize::MAX, &mut rows)?;
+    if layout.is_in_blocks(options.vertical) {
+        return show_blocks(alloc, options, &rows, out);
+    }
+    show_table(alloc, options, &layout, &rows, out)
+}
+
 // Shows these rows as one table, or as blocks.
 fn show_chosen<W: Write + Drop>(
     alloc: Global,
@@ -185,10 +204,10 @@ fn show_chosen<W: Write + Drop>(
         → Draws (all_text options.now (map fields_of rows.items)) (all_fault options.now (map fields_of rows.items)) (W.contents out.old.writer) (W.contents out.new.writer) result }
     ensures told { TellsWrite (failure_of out.old) (failure_of out.new) result }
 {
-    if options.is_vertical {
+    if options.vertical.is_always() {
         return show_blocks(alloc, options, &rows, out);
     }
-    show_whole(alloc, options, rows, out)
+    show_measured(alloc, options, rows, out)
 }
 
 // Shows those of all rows that are asked, and the line below them.

@@ -1,7 +1,10 @@
 -- What is known of a table before its rows.
-use Rattle.std.specs.Prelude.{ℕ, List, Option, slice_index_or}
+use Rattle.std.specs.Prelude.{ℕ, Bool, true, false, List, Option, is_none, slice_index_or}
+use Rattle.std.specs.List.{list_any}
 use Rattle.pg_layout.specs.Text.{Text}
 use Rattle.pg_config.specs.Config.{Config}
+use Rattle.ruled_table.specs.declared.options.Vertical.{Vertical}
+use Rattle.ruled_table.specs.declared.options.Vertical.TheVariants.{Always, IfOmitting, Never}
 
 -- the columns by their places in a row, what the table looks like, how wide its columns are, and the line below it
 pub record Plan : Type 0 where
@@ -12,6 +15,21 @@ pub record Plan : Type 0 where
 
 abbrev pub plan_of : List (Option ℕ) → Config → (ℕ → ℕ) → Text → Plan
 plan_of places config width note = record { places = places; config = config; width = width; note = note }
+
+-- whether columns are left out, so that there is one of `…`
+abbrev pub leaves_columns_out : Plan → Bool
+leaves_columns_out plan = list_any is_none plan.places
+
+abbrev pub is_always : Vertical → Bool
+is_always Never = false
+is_always IfOmitting = false
+is_always Always = true
+
+-- whether rows are shown as blocks in place of their table
+abbrev pub is_in_blocks : Vertical → Plan → Bool
+is_in_blocks Never plan = false
+is_in_blocks IfOmitting plan = leaves_columns_out plan
+is_in_blocks Always plan = true
 
 -- the same, with the widths in a list
 pub record Measures : Type 0 where

@@ -1,13 +1,16 @@
 -- The text of rows, and why there is none.
-use Rattle.std.specs.Prelude.{List, ◌∷◌, ◌++◌, [], Option, None, if◌then◌else◌}
+use Rattle.std.specs.Prelude.{Bool, List, ◌∷◌, ◌++◌, [], Option, None, if◌then◌else◌}
 use Rattle.std.specs.Option.{option_or}
 use Rattle.pg_layout.specs.Text.{Text}
 use Rattle.ruled_table.specs.Arranged.{arranged, chosen_rows, count_text}
 use Rattle.ruled_table.specs.Blocks.{blocks_fault, blocks_text}
 use Rattle.ruled_table.specs.Columns.{column_fault}
-use Rattle.ruled_table.specs.Layouts.{first_fault, layout_of, whole_text}
+use Rattle.ruled_table.specs.Layouts.{first_fault, layout_fault, layout_of, whole_text}
+use Rattle.ruled_table.specs.Plans.{is_in_blocks}
 use Rattle.ruled_table.specs.declared.fault.ViewFault.{ViewFault}
 use Rattle.ruled_table.specs.declared.options.Options.{Options}
+use Rattle.ruled_table.specs.declared.options.Vertical.{Vertical}
+use Rattle.ruled_table.specs.declared.options.Vertical.TheVariants.{IfOmitting}
 
 -- ---- as one table
 
@@ -22,11 +25,21 @@ whole_fault options (row ∷ rows) = first_fault options (row ∷ rows)
 
 -- ---- as one table, or as a block for each record
 
+-- whether they are shown as blocks
+abbrev pub shows_blocks : Options → List (List Text) → Bool
+shows_blocks options rows = is_in_blocks options.vertical (layout_of options rows)
+
 abbrev pub all_text : Options → List (List Text) → Text
-all_text options rows = if options.is_vertical then blocks_text options rows else whole_table options rows
+all_text options rows = if shows_blocks options rows then blocks_text options rows else whole_table options rows
+
+-- what is wrong with a table that is measured to see if columns are left out of it
+abbrev pub measured_fault : Vertical → Options → List (List Text) → Option ViewFault
+measured_fault IfOmitting options (row ∷ rows) = layout_fault options (row ∷ rows)
+measured_fault vertical options rows = None
 
 abbrev pub all_fault : Options → List (List Text) → Option ViewFault
-all_fault options rows = if options.is_vertical then blocks_fault options rows else whole_fault options rows
+all_fault options rows =
+    option_or (measured_fault options.vertical options rows) (if shows_blocks options rows then blocks_fault options rows else whole_fault options rows)
 
 -- ---- of those that are shown of an input's rows
 

@@ -5,14 +5,14 @@ ghost use Rattle.csv.specs.Records.{fields_of};
 ghost use Rattle.ruled_table.specs.Faults.{Tells};
 ghost use Rattle.ruled_table.specs.Layouts as spec;
 ghost use Rattle.ruled_table.specs.LentRows.{texts_at};
-ghost use Rattle.ruled_table.specs.Plans.{plan_in};
+ghost use Rattle.ruled_table.specs.Plans.{is_in_blocks, leaves_columns_out, plan_in};
 ghost use Rattle.ruled_table.specs.Shown.{shown_text};
 
 use crate::columns::places_of;
 use crate::fault::ViewFault;
 use crate::lent_rows::LentRows;
 use crate::omission::{abridge, note_of, shown_columns};
-use crate::options::Options;
+use crate::options::{Options, Vertical};
 use crate::rows::{all_stand, shown_records};
 use crate::widths::{first_config, sizes_of_rows};
 use csv::StringRecord;
@@ -125,6 +125,24 @@ impl Layout {
             return Layout::of_standing(alloc, options, count, rows);
         }
         Layout::of_copies(alloc, options, first_of(rows, count))
+    }
+
+    // Whether columns are left out.
+    fn leaves_columns_out(&self) -> bool
+        ensures { result ≡ leaves_columns_out (plan_in self.now) }
+    {
+        self.places.iter().any(|place| place.is_none())
+    }
+
+    /// Whether rows of this layout are shown as blocks in place of their table.
+    pub fn is_in_blocks(&self, vertical: Vertical) -> bool
+        ensures { result ≡ is_in_blocks vertical (plan_in self.now) }
+    {
+        match vertical {
+            Vertical::Never => false,
+            Vertical::IfOmitting => self.leaves_columns_out(),
+            Vertical::Always => true,
+        }
     }
 
     // The layout of so many first rows, each text of which is shown as it stands. Meanwhile a ruler

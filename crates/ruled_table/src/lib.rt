@@ -28,7 +28,7 @@ pub use crate::bounds::Bounds;
 pub use crate::fault::ViewFault;
 pub use crate::layout::Layout;
 pub use crate::look::Look;
-pub use crate::options::Options;
+pub use crate::options::{Options, Vertical};
 pub use crate::rows::limit_of;
 pub use crate::table_rows::TableRows;
 pub use crate::view::{Chosen, chosen_rows};

@@ -1,8 +1,32 @@
 //! How rows are shown.
 
+ghost use Rattle.std.specs.Prelude.{◌≡◌};
+ghost use Rattle.ruled_table.specs.Plans.{is_always};
+
 use crate::bounds::Bounds;
 use crate::look::Look;
 use pg_layout::AlignmentHorizontal;
+
+/// When rows below row 0 are shown as blocks: each a table of its own with a row for each field, of
+/// its name in row 0 and its text, both left-aligned, and an empty line below it.
+#[derive(Clone, Copy)]
+pub enum Vertical {
+    /// Never.
+    Never,
+    /// If columns would be left out of their table.
+    IfOmitting,
+    /// Always.
+    Always,
+}
+
+impl Vertical {
+    /// Whether rows are shown as blocks, however wide their table is.
+    pub fn is_always(self) -> bool
+        ensures { result ≡ is_always self }
+    {
+        matches!(self, Vertical::Always)
+    }
+}
 
 /// How rows are shown.
 #[derive(Drop)]
@@ -38,9 +62,8 @@ pub struct Options {
     /// Whether a line below the table, with a line feed, says how many rows below a header `head` allows, and how many
     /// columns are asked for.
     pub is_counting: bool,
-    /// Whether each row below row 0 is shown as a block of its own: a table with a row for each
-    /// field, with its name in row 0 and its text, both left-aligned, and an empty line below it.
-    pub is_vertical: bool,
+    /// When rows are shown as blocks.
+    pub vertical: Vertical,
     /// The greatest widths of the table, or of each block, and of columns.
     pub bounds: Bounds,
     /// Whether columns in the middle of a table are left out if its width has no room for all, each

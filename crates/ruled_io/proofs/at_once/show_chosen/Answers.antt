@@ -1,34 +1,24 @@
-use Rattle.std.proofs.Common.{◌≡◌, List, None, map, refl, ap, subst, false, true, rules}
+use Rattle.std.proofs.Common.{◌≡◌, List, None, map, refl, ap, subst, true, rules}
 use Rattle.csv.specs.Records.{fields_of}
 use Rattle.pg_layout.specs.Text.{Text}
 use Rattle.ruled_table.specs.Blocks.{blocks_fault, blocks_text}
 use Rattle.ruled_table.specs.Columns.{column_fault}
-use Rattle.ruled_table.specs.View.{all_fault, all_text, whole_fault, whole_table}
+use Rattle.ruled_table.specs.Plans.{is_always}
+use Rattle.ruled_table.specs.View.{all_fault, all_text}
 use Rattle.ruled_io.specs.Steps.{Draws}
-use Rattle.ruled_io.proofs.AtOnce.{same-draws}
+use Rattle.ruled_io.proofs.AtOnce.{always-blocks, same-draws}
 use Rattle.ruled_io.proofs.at_once.show_chosen.Goals as goal
 
-pub returns-then-options-clause-draws : goal.returns-then-options-clause-draws
-returns-then-options-clause-draws g c = λ named.
+pub returns-then-is_always-clause-draws : goal.returns-then-is_always-clause-draws
+returns-then-is_always-clause-draws g c = λ named.
     let options = c.args.options.now in
     let rows : List (List Text) = map fields_of c.args.rows.items in
     let old = g.W.Write.contents c.args.out.now.writer in
     let new = g.W.Write.contents c.show_blocks.new.out.writer in
     let lent : map fields_of c.deref.result.now ≡ rows = ap (map fields_of) c.deref.ensures.value in
-    let vertical : options.is_vertical ≡ true = search rules in
-    let text : blocks_text options rows ≡ all_text options rows = rw vertical refl in
-    let wrong : blocks_fault options rows ≡ all_fault options rows = rw vertical refl in
+    let always : is_always options.vertical ≡ true = search rules in
+    let (text, wrong) = always-blocks options rows always in
     let drawn : column_fault options.columns.items rows ≡ None → Draws (blocks_text options rows) (blocks_fault options rows) old new c.show_blocks.result =
     subst (λ (rs : List (List Text)). column_fault options.columns.items rs ≡ None → Draws (blocks_text options rs) (blocks_fault options rs) old new c.show_blocks.result) lent c.show_blocks.ensures.draws
     in
     same-draws (blocks_text options rows) (all_text options rows) (blocks_fault options rows) (all_fault options rows) old new c.show_blocks.result text wrong (drawn named)
-
-pub returns-clause-draws : goal.returns-clause-draws
-returns-clause-draws g c = λ named.
-    let options = c.args.options.now in
-    let rows : List (List Text) = map fields_of c.args.rows.items in
-    let flat : options.is_vertical ≡ false = search rules in
-    let text : whole_table options rows ≡ all_text options rows = rw flat refl in
-    let wrong : whole_fault options rows ≡ all_fault options rows = rw flat refl in
-    same-draws (whole_table options rows) (all_text options rows) (whole_fault options rows) (all_fault options rows) (g.W.Write.contents c.args.out.now.writer) (g.W.Write.contents c.show_whole.new.out.writer) c.show_whole.result text wrong
-    c.show_whole.ensures.draws
