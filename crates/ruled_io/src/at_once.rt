@@ -114,24 +114,28 @@ fn show_table<W: Write + Drop>(
     write_whole(alloc, table, rows, out)
 }
 
-// Writes the block of a record. Texts in memory whose sizes can't be counted have no room there for a block.
+// Writes the block of a record, which is put into the buffer in place of the one before. Texts in memory whose sizes can't
+// be counted have no room there for a block.
 fn write_block<W: Write + Drop>(
     blocks: &Blocks<'_>,
     fields: &StringRecord,
+    buf: &mut String,
     out: &mut Output<W>,
 ) -> Result<(), RunFault>
     ensures draws { (options : Options) (rows : List (List Text)) → HasNames options rows blocks.now
         → DrawsInMemory (record_block options rows (fields_of fields.now)) (record_fault options rows (fields_of fields.now)) (W.contents out.old.writer) (W.contents out.new.writer) result }
     ensures told { TellsWrite (failure_of out.old) (failure_of out.new) result }
 {
-    match blocks.block(fields) {
-        Ok(text) => out.write(text.as_bytes()),
+    buf.clear();
+    match blocks.push(fields, buf) {
+        Ok(()) => out.write(buf.as_bytes()),
         Err(_) => Err(RunFault::Input(InputFault::Memory)),
     }
 }
 
 // Writes the blocks of records.
 fn write_blocks<W: Write + Drop>(
+    alloc: Global,
     blocks: &Blocks<'_>,
     records: &[StringRecord],
     out: &mut Output<W>,
@@ -141,8 +145,9 @@ fn write_blocks<W: Write + Drop>(
         (W.contents out.new.writer) result }
     ensures told { TellsWrite (failure_of out.old) (failure_of out.new) result }
 {
+    let mut buf = String::new(alloc);
     for fields in records {
-        write_block(blocks, fields, out)?;
+        write_block(blocks, fields, &mut buf, out)?;
     }
     Ok(())
 }
@@ -169,7 +174,7 @@ fn show_blocks<W: Write + Drop>(
     ensures told { TellsWrite (failure_of out.old) (failure_of out.new) result }
 {
     let blocks = Blocks::new(alloc, options, rows)?;
-    write_blocks(&blocks, below_names(rows), out)
+    write_blocks(alloc, &blocks, below_names(rows), out)
 }
 
 // Shows rows as one table, unless columns would be left out of it and blocks are asked for then.

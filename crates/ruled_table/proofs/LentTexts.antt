@@ -1,9 +1,8 @@
 -- Rows whose texts are fields of records, with names, sizes and escapes, and those that are shown.
-use Rattle.std.proofs.Common.{◌≡◌, ◌<◌, ◌≤◌, ◌∙◌, ◌∷◌, ℕ, zero, suc, Bool, true, false, List, Option, [], map, length, slice_index_or, All, encode_utf8_all, flat_map, refl, sym, ap, arith, ap₂, Some, None, ◌==◌, ◌||◌, ◌++◌, not, chars, encode_utf8, IsUtf8, ◌+◌, ◌-◌, ◌/◌, max, take, drop, get_or, append_assoc}
+use Rattle.std.proofs.Common.{◌≡◌, ◌≢◌, ◌<◌, ◌≤◌, ◌∙◌, ◌∷◌, ℕ, zero, suc, Bool, true, false, List, Option, [], map, length, slice_index_or, All, encode_utf8_all, flat_map, refl, sym, ap, arith, ap₂, Some, None, ◌==◌, ◌||◌, ◌++◌, not, chars, encode_utf8, IsUtf8, ◌+◌, ◌-◌, ◌/◌, max, take, drop, get_or, append_assoc}
 use Rattle.std.proofs.lemmas.List.{length-map, drop-map, drop_more, map-append, take-map, take-take, take_more}
 use Rattle.std.proofs.lemmas.List.Elements.{All-map}
 use Rattle.std.proofs.Math.Utf8.{encode}
-use Rattle.std.proofs.lemmas.Simd.{map-map}
 use Rattle.std.proofs.lemmas.Str.{chars-encodes, chars-nil, encodes-chars}
 use Rattle.std.specs.Prelude.{if◌then◌else◌}
 use Rattle.csv.specs.Records.{Row, fields_of, field_at}
@@ -11,17 +10,18 @@ use Rattle.pg_layout.specs.Records.{columns_of}
 use Rattle.pg_layout.specs.Text.{Text}
 use Rattle.pg_config.specs.Config.{Config}
 use Rattle.pg_fit.specs.Controls.{sign_of, visible_text}
-use Rattle.ruled_table.specs.Blocks.{pair_at, block_fault, block_of, names_in, places_in, record_block, record_fault}
+use Rattle.ruled_table.specs.Blocks.{block_fault, block_of, names_in, places_in, record_block, record_fault}
 use Rattle.ruled_table.specs.Columns.{drawn_at, ellipsis}
 use Rattle.ruled_table.specs.Omitted.{abridged}
 use Rattle.ruled_table.specs.Escapes.{escape_of, escaped_text, is_plain}
 use Rattle.ruled_table.specs.LentRows.{fields_at, texts_at}
+use Rattle.ruled_table.specs.PairedRows.{pairs_of}
 use Rattle.ruled_table.specs.Shown.{seen_text, shown_row, shown_text, look_config}
 use Rattle.ruled_table.specs.declared.options.Options.{Options}
 use Rattle.ruled_table.specs.Named.{HasNames}
 use Rattle.ruled_table.specs.declared.blocks.Blocks.{Blocks}
 use Rattle.std.proofs.lemmas.Option.{same_Some, none-some}
-use Rattle.std.specs.List.{list_all, range_with_len, fold}
+use Rattle.std.specs.List.{list_all, range_with_len, fold, zip}
 use Rattle.std.proofs.lemmas.Bool.{and_parts, true≢false}
 use Rattle.std.proofs.lemmas.List.FromFn.{map-range_with_len_more}
 use Rattle.ruled_table.specs.Arranged.{both_ends, gap_of, last_of}
@@ -47,14 +47,40 @@ even-lent places (row ∷ rows) =
     let n : ℕ = length (fields_at places (fields_of row)) in
     All-map (λ (texts : List Text). length texts ≡ n) (λ fields. fields_at places (fields_of fields)) (row ∷ rows) (λ k d h. length-map places _ ∙ sym (length-map places _))
 
--- rows of two texts are their own first two
-pub pairs-lent : (names texts : List Text) (columns : List ℕ) (records : List Row) → map fields_of records ≡ map (pair_at names texts) columns
-    → map (λ fields. fields_at (Some 0 ∷ Some 1 ∷ []) (fields_of fields)) records ≡ map (pair_at names texts) columns
-pairs-lent names texts columns records are = sym (map-map (fields_at (Some 0 ∷ Some 1 ∷ [])) fields_of records) ∙ ap (map (fields_at (Some 0 ∷ Some 1 ∷ []))) are ∙ firsts columns
-  where
-    firsts : (ks : List ℕ) → map (fields_at (Some 0 ∷ Some 1 ∷ [])) (map (pair_at names texts) ks) ≡ map (pair_at names texts) ks
-    firsts [] = refl
-    firsts (k ∷ ks) = ap (λ (rows : List (List Text)). pair_at names texts k ∷ rows) (firsts ks)
+-- ---- records field by field
+
+module _ (names texts : List Text) where
+  abbrev pairs : List (Option ℕ) → List (List Text)
+  pairs places = pairs_of (fields_at places names) (fields_at places texts)
+
+  pub pairs-count : (places : List (Option ℕ)) → length (pairs places) ≡ length places
+  pairs-count [] = refl
+  pairs-count (place ∷ places) = omega (arith, pairs-count places)
+
+  pub pairs-columns : (places : List (Option ℕ)) → 0 < length places → columns_of (pairs places) ≡ 2
+  pairs-columns [] some = absurd (omega (arith, some))
+  pairs-columns (place ∷ places) some = refl
+
+  pub pairs-even : (places : List (Option ℕ)) → All (λ row. length row ≡ 2) (pairs places)
+  pairs-even places = All-map (λ (row : List Text). length row ≡ 2) (λ pair. pair.0 ∷ pair.1 ∷ []) (zip (fields_at places names) (fields_at places texts)) (λ k d h. refl)
+
+  pair-at : (places : List (Option ℕ)) (row : ℕ) → row < length (pairs places)
+      → slice_index_or (pairs places) row [] ≡ slice_index_or (fields_at places names) row [] ∷ slice_index_or (fields_at places texts) row [] ∷ []
+  pair-at [] row within = absurd (omega (arith, within))
+  pair-at (place ∷ places) zero within = refl
+  pair-at (place ∷ places) (suc row) within = pair-at places row (omega (arith, within))
+
+  -- its name, and the text beside it
+  pub name-at : (places : List (Option ℕ)) (row column : ℕ) → row < length (pairs places) → column ≡ 0
+      → slice_index_or (fields_at places names) row [] ≡ slice_index_or (slice_index_or (pairs places) row []) column []
+  name-at places row column within is = rw (is, pair-at places row within) refl
+
+  pub beside-at : (places : List (Option ℕ)) (row column : ℕ) → row < length (pairs places) → column < columns_of (pairs places) → column ≢ 0
+      → slice_index_or (fields_at places texts) row [] ≡ slice_index_or (slice_index_or (pairs places) row []) column []
+  beside-at places row column within inside other =
+      let some : 0 < length places = omega (arith, pairs-count places, within) in
+      let is : column ≡ 1 = omega (arith, pairs-columns places some, inside, other) in
+      rw (is, pair-at places row within) refl
 
 -- ---- texts that are shown
 
@@ -196,15 +222,6 @@ plain_texts_stay text utf8 h = escapes-plain (chars text) h ∙ encodes-chars te
 -- ---- texts and rows that are shown, one after another
 
 -- ---- texts and rows that are shown, one after another
-
--- one element more of what is made of the first numbers
-pub made_next : {X Z : Type 0} (view : X → Z) (f : ℕ → Z) (made : List X) (x : X) (n : ℕ) → view x ≡ f n
-    → map view made ≡ map f (range_with_len 0 n) → map view (made ++ x ∷ []) ≡ map f (range_with_len 0 (n + 1))
-made_next {X} {Z} view f made x n is before =
-    map-append view made (x ∷ [])
-    ∙ ap (λ (zs : List Z). zs ++ view x ∷ []) before
-    ∙ ap (λ (z : Z). map f (range_with_len 0 n) ++ z ∷ []) is
-    ∙ sym (map-range_with_len_more f 0 n n (omega arith))
 
 -- one element more of what is made of a list from its front on
 pub made_on : {X Y Z : Type 0} (view : X → Z) (f : Y → Z) (made : List X) (x : X) (y : Y) (old rest : List Y) (all : List Z) → view x ≡ f y → old ≡ y ∷ rest

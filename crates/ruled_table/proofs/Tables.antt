@@ -1,10 +1,11 @@
 -- Tables of rows: their looks and sizes, before the first row and after the last.
-use Rattle.std.proofs.Common.{◌≡◌, ◌∷◌, ◌++◌, ℕ, List, [], length, true, false, refl, None, Some, Option, Result, Ok, Err, sym, ap, ◌∙◌, ◌-◌, zero, suc, max, String, ◌≢◌, ◌⊎◌, slice_index_or, IfOk, inl, inr, subst, ◌<◌, arith, add-one, take, rules, ◌+◌, ◌*◌, Bool}
-use Rattle.std.specs.Prelude.{◌==◌, is_none, if◌then◌else◌, ⊤, ◌↔◌, nat_lt}
+use Rattle.std.proofs.Common.{◌≡◌, ◌∷◌, ◌++◌, ℕ, List, [], length, true, false, refl, None, Some, Option, Result, Ok, Err, sym, ap, ◌∙◌, ◌-◌, zero, suc, max, String, ◌≢◌, ◌⊎◌, slice_index_or, IfOk, inl, inr, subst, ◌<◌, arith, add-one, take, rules, ◌+◌, ◌*◌, Bool, string_bytes, append-nil, append_assoc}
+use Rattle.std.specs.Prelude.{◌==◌, IsOk, OnErr, is_none, if◌then◌else◌, ⊤, ◌↔◌, nat_lt}
 use Rattle.pg_layout.specs.Text.{Text}
 use Rattle.pg_layout.specs.Records.{columns_of, text_at}
 use Rattle.pg_layout.specs.declared.borders.HorizontalLine.{HorizontalLine}
 use Rattle.pg_config.specs.Config.{Config, default_config}
+use Rattle.pg_picture.specs.Appending.{GainedBeginning}
 use Rattle.pg_picture.specs.Picture.{picture}
 use Rattle.pg_picture.specs.Table.{Known, Table, full_width, total_width}
 use Rattle.ruled_table.specs.Bounds.{bounded_fault, bounded_table}
@@ -25,7 +26,8 @@ use Rattle.pg_layout.specs.Colors.{Color}
 use Rattle.pg_layout.specs.declared.dimension.ConstantDimension.{ConstantDimension}
 use Rattle.pg_layout.specs.declared.position.Position.{Position}
 use Rattle.pg_table.specs.Natural.{natural_sizes}
-use Rattle.pg_table.specs.Printing.{sizes_fault}
+use Rattle.pg_table.specs.Printing.{Prints, sizes_fault}
+use Rattle.pg_picture.proofs.Appending.{Appends-beginning}
 use Rattle.pg_table.specs.Spanning.{table_from}
 use Rattle.pg_table.specs.declared.fault.TableFault.{TableFault}
 use Rattle.pg_table.specs.declared.fault.TableFault.TheVariants as table
@@ -61,6 +63,44 @@ module _ (bounds : Bounds) (config : Config) (rows : List (List Text)) where
 
   pub fault_drawn : (length rows == 0) ≡ false → (if is_none (bounded_fault bounds config rows) then None else Some Totals) ≡ fault_with bounds config rows
   fault_drawn e = rw e refl
+
+-- ---- what is wrong with a table that is printed, and what a call that fails has appended
+
+pub on-err : {X F : Type 0} {P : Type 0} (r : Result X F) → P → OnErr r P
+on-err (Ok x) holds = tt
+on-err (Err fault) holds = holds
+
+module _ {Z : Type 0} {old new : String Z} where
+  -- all of what comes first, and nothing else
+  pub gained-first : (text more : Text) → string_bytes new ≡ string_bytes old ++ text → GainedBeginning old new (text ++ more)
+  gained-first text more is = record { beginning = text; begins = record { rest = more; is = refl }; bytes = is }
+
+  -- a beginning of what comes first
+  pub gained-in : (text more : Text) → GainedBeginning old new text → GainedBeginning old new (text ++ more)
+  gained-in text more gained = record {
+    beginning = gained.beginning;
+    begins = record { rest = gained.begins.rest ++ more; is = ap (λ (t : Text). t ++ more) gained.begins.is ∙ append_assoc gained.beginning gained.begins.rest more };
+    bytes = gained.bytes;
+  }
+
+  pub gained-none : (text : Text) → string_bytes new ≡ string_bytes old → GainedBeginning old new text
+  gained-none text same = record { beginning = []; begins = record { rest = text; is = refl }; bytes = same ∙ sym (append-nil (string_bytes old)) }
+
+module _ {Z U : Type 0} (spanned : Bool) (old new : String Z) (text : Text) where
+  pub printed-fine : (wrong : Option TableFault) (result : Result U TableFault) → Prints spanned wrong old new result text → IsOk result → wrong ≡ None
+  printed-fine None result prints ok = refl
+  printed-fine (Some fault) (Ok x) prints ok = elim prints.0 [ inl same ↦ absurd (cc) | inr lost ↦ let same = lost.0 in absurd (cc) ]
+  printed-fine (Some fault) (Err found) prints ok = absurd ok
+
+  pub printed-wrong : (wrong : Option TableFault) (result : Result U TableFault) → Prints spanned wrong old new result text
+      → (fault : TableFault) → result ≡ Err fault → fault ≢ table.Memory → is_none wrong ≡ false
+  printed-wrong None result prints fault is other = absurd (other (prints.1 fault is))
+  printed-wrong (Some wrong) result prints fault is other = refl
+
+  pub printed-begun : (wrong : Option TableFault) (result : Result U TableFault) → Prints spanned wrong old new result text → OnErr result (GainedBeginning old new text)
+  printed-begun wrong (Ok x) prints = tt
+  printed-begun (Some fault) (Err found) prints = gained-none text (ap string_bytes prints.1)
+  printed-begun None (Err found) prints = elim prints.0 [ inl appends ↦ Appends-beginning appends | inr none ↦ gained-none text (ap string_bytes none.1) ]
 
 -- ---- what is told where rows have no table: of the columns, or of the sizes
 

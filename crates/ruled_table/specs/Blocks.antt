@@ -1,25 +1,18 @@
 -- Records as blocks: a table of two columns for each record, with a row for each field, of its name and its text.
-use Rattle.std.specs.Prelude.{ℕ, List, [], ◌∷◌, ◌++◌, drop, map, length, slice_index_or, Option, None}
-use Rattle.std.specs.List.{flat_map, range_with_len}
+use Rattle.std.specs.Prelude.{ℕ, List, [], ◌∷◌, ◌++◌, drop, slice_index_or, Option, None}
+use Rattle.std.specs.List.{flat_map}
 use Rattle.std.specs.Option.{option_or}
 use Rattle.pg_layout.specs.Text.{Text}
 use Rattle.pg_config.specs.Config.{Config}
 use Rattle.ruled_table.specs.Columns.{places_of}
+use Rattle.ruled_table.specs.PairedRows.{pairs_of}
 use Rattle.ruled_table.specs.Shown.{look_config, shown_row}
 use Rattle.ruled_table.specs.Tables.{fault_with, text_with}
 use Rattle.ruled_table.specs.declared.bounds.Bounds.{Bounds}
 use Rattle.ruled_table.specs.declared.fault.ViewFault.{ViewFault}
 use Rattle.ruled_table.specs.declared.options.Options.{Options}
 
--- a field's name and its text
-abbrev pub pair_at : List Text → List Text → ℕ → List Text
-pair_at names texts place = slice_index_or names place [] ∷ slice_index_or texts place [] ∷ []
-
--- a record with these names, field by field
-abbrev pub pairs_of : List Text → List Text → List (List Text)
-pairs_of names texts = map (pair_at names texts) (range_with_len 0 (length names))
-
--- its block, and an empty line
+-- the block of a record with these names, and an empty line
 abbrev pub block_of : Bounds → Config → List Text → List Text → Text
 block_of bounds config names texts = text_with bounds config (pairs_of names texts) ++ 10 ∷ []
 

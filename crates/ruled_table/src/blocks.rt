@@ -1,8 +1,9 @@
 //! Records as blocks: a table for each record, with a row for each field.
 
-ghost use Rattle.std.specs.Prelude.{◌≡◌, [], List, map, slice_index_or, string_bytes, IfOk};
+ghost use Rattle.std.specs.Prelude.{◌≡◌, ◌++◌, [], List, map, slice_index_or, string_bytes, IfOk, OnErr, OnOk};
 ghost use Rattle.csv.specs.Records.{fields_of};
 ghost use Rattle.pg_layout.specs.Text.{Text};
+ghost use Rattle.pg_picture.specs.Appending.{GainedBeginning};
 ghost use Rattle.ruled_table.specs.Blocks as spec;
 ghost use Rattle.ruled_table.specs.Columns.{column_fault};
 ghost use Rattle.ruled_table.specs.Faults.{Tells};
@@ -14,10 +15,10 @@ ghost use Rattle.ruled_table.specs.declared.options.Options.{Options};
 use crate::bounds::Bounds;
 use crate::columns::places_of;
 use crate::fault::ViewFault;
-use crate::lent_rows::{LentRows, text_in};
 use crate::options::Options;
+use crate::paired_rows::PairedRows;
 use crate::rows::{all_stand, made_record};
-use crate::table::{look_config, text_with};
+use crate::table::{look_config, push_text};
 use csv::StringRecord;
 use pg_config::SpannedConfig;
 use std::alloc::{AllocError, Global};
@@ -49,63 +50,6 @@ fn names_of(
     }
 }
 
-// A field's name and its text.
-fn pair_at(
-    alloc: Global,
-    names: &StringRecord,
-    fields: &StringRecord,
-    places: &[Option<usize>],
-    column: usize,
-) -> Result<StringRecord, AllocError>
-    ensures { IfOk result (λ pair. fields_of pair ≡ spec.pair_at (fields_at places.now (fields_of names.now)) (fields_at places.now (fields_of fields.now)) column) }
-{
-    let name = text_in(names, places, column);
-    let text = text_in(fields, places, column);
-    let mut pair = StringRecord::with_capacity(alloc, name.len().saturating_add(text.len()), 2)?;
-    pair.push_field(name)?;
-    pair.push_field(text)?;
-    Ok(pair)
-}
-
-// A record with these names, field by field.
-fn pairs_of(
-    alloc: Global,
-    names: &StringRecord,
-    fields: &StringRecord,
-    places: &[Option<usize>],
-) -> Result<Vec<StringRecord>, AllocError>
-    ensures { IfOk result (λ pairs. map fields_of pairs.items ≡ spec.pairs_of (fields_at places.now (fields_of names.now)) (fields_at places.now (fields_of fields.now))) }
-{
-    let mut pairs = Vec::with_capacity(alloc, places.len())?;
-    for column in 0..places.len() {
-        let pair = pair_at(alloc, names, fields, places, column)?;
-        pairs.push(pair)?;
-    }
-    Ok(pairs)
-}
-
-// The block of a record, and an empty line.
-fn block_of(
-    alloc: Global,
-    bounds: &Bounds,
-    config: &SpannedConfig,
-    names: &StringRecord,
-    fields: &StringRecord,
-    places: &[Option<usize>],
-) -> Result<String, ViewFault>
-    ensures text { IfOk result (λ text. string_bytes text ≡ spec.block_of bounds.now config.now (fields_at places.now (fields_of names.now)) (fields_at places.now (fields_of fields.now))) }
-    ensures fault { Tells (spec.block_fault bounds.now config.now (fields_at places.now (fields_of names.now)) (fields_at places.now (fields_of fields.now))) result }
-{
-    let pairs = pairs_of(alloc, names, fields, places)?;
-    let rows = LentRows {
-        records: &pairs,
-        places: &[Some(0), Some(1)],
-    };
-    let mut text = text_with(alloc, bounds, config, rows)?;
-    text.push('\n')?;
-    Ok(text)
-}
-
 impl<'a> Blocks<'a> {
     /// The blocks of records, of which the first of these rows has the names.
     ///
@@ -130,31 +74,37 @@ impl<'a> Blocks<'a> {
         })
     }
 
-    /// The block of a record, and an empty line.
-    pub fn block(&self, fields: &StringRecord) -> Result<String, ViewFault>
+    // Appends the block of a row, of which this record has the texts that are shown.
+    fn push_shown(&self, fields: &StringRecord, buf: &mut String) -> Result<(), ViewFault>
+        ensures text { (options : Options) (rows : List (List Text)) (row : List Text) → HasNames options rows self.now → fields_of fields.now ≡ map (shown_text options) row
+            → OnOk result (string_bytes buf.new ≡ string_bytes buf.old ++ spec.record_block options rows row) }
+        ensures begun { (options : Options) (rows : List (List Text)) (row : List Text) → HasNames options rows self.now → fields_of fields.now ≡ map (shown_text options) row
+            → OnErr result (GainedBeginning buf.old buf.new (spec.record_block options rows row)) }
+        ensures fault { (options : Options) (rows : List (List Text)) (row : List Text) → HasNames options rows self.now → fields_of fields.now ≡ map (shown_text options) row
+            → Tells (spec.record_fault options rows row) result }
+    {
+        let rows = PairedRows {
+            names: &self.names,
+            fields,
+            places: &self.places,
+        };
+        push_text(self.alloc, &self.options.bounds, &self.config, rows, buf)?;
+        buf.push('\n')?;
+        Ok(())
+    }
+
+    /// Appends the block of a record, and an empty line. If it fails, a beginning of them is appended.
+    pub fn push(&self, fields: &StringRecord, buf: &mut String) -> Result<(), ViewFault>
         ensures text { (options : Options) (rows : List (List Text)) → HasNames options rows self.now
-            → IfOk result (λ text. string_bytes text ≡ spec.record_block options rows (fields_of fields.now)) }
+            → OnOk result (string_bytes buf.new ≡ string_bytes buf.old ++ spec.record_block options rows (fields_of fields.now)) }
+        ensures begun { (options : Options) (rows : List (List Text)) → HasNames options rows self.now
+            → OnErr result (GainedBeginning buf.old buf.new (spec.record_block options rows (fields_of fields.now))) }
         ensures fault { (options : Options) (rows : List (List Text)) → HasNames options rows self.now → Tells (spec.record_fault options rows (fields_of fields.now)) result }
     {
-        let bounds = &self.options.bounds;
         if all_stand(self.options, fields) {
-            return block_of(
-                self.alloc,
-                bounds,
-                &self.config,
-                &self.names,
-                fields,
-                &self.places,
-            );
+            return self.push_shown(fields, buf);
         }
         let shown = made_record(self.alloc, self.options, fields)?;
-        block_of(
-            self.alloc,
-            bounds,
-            &self.config,
-            &self.names,
-            &shown,
-            &self.places,
-        )
+        self.push_shown(&shown, buf)
     }
 }

@@ -1,15 +1,16 @@
 //! The greatest widths of a table and its columns.
 
-ghost use Rattle.std.specs.Prelude.{◌≡◌, ◌≢◌, string_bytes, Err, IfOk, IsOk, None, is_none, false};
+ghost use Rattle.std.specs.Prelude.{◌≡◌, ◌≢◌, ◌++◌, string_bytes, Err, IfOk, IsOk, None, OnErr, OnOk, is_none, false};
+ghost use Rattle.pg_picture.specs.Appending.{GainedBeginning};
 ghost use Rattle.pg_picture.specs.Picture.{picture};
 ghost use Rattle.pg_picture.specs.Table.{Known};
 ghost use Rattle.pg_table.specs.declared.fault.TableFault.{TableFault};
 ghost use Rattle.pg_layout.specs.Records.{columns_of};
 ghost use Rattle.ruled_table.specs.Bounds as spec;
-ghost use Rattle.ruled_table.specs.LentRows.{texts_of};
+ghost use Rattle.ruled_table.specs.PairedRows.{pairs_in};
 
 use crate::columns::told_of;
-use crate::lent_rows::LentRows;
+use crate::paired_rows::PairedRows;
 use pg_config::SpannedConfig;
 use pg_layout::{NoColors, Records};
 use pg_table::{NaturalTable, Overflow, TableFault};
@@ -71,24 +72,26 @@ impl Bounds {
         Ok(limits)
     }
 
-    /// The picture of the table of these rows within the bounds, if there are any, else at its
-    /// natural sizes.
-    pub(crate) fn picture(
+    /// Appends the picture of the table of these rows within the bounds, if there are any, else at
+    /// its natural sizes. If it fails, a beginning of the picture is appended.
+    pub(crate) fn print(
         &self,
         alloc: Global,
         config: &SpannedConfig,
-        rows: LentRows<'_>,
-    ) -> Result<String, TableFault>
-        ensures text { IfOk result (λ text. string_bytes text ≡ picture Known (spec.bounded_table self.now config.now (texts_of rows.entry))) }
-        ensures ok { IsOk result → spec.bounded_fault self.now config.now (texts_of rows.entry) ≡ None }
-        ensures fault { (fault : TableFault) → result ≡ Err fault → fault ≢ TableFault.Memory → is_none (spec.bounded_fault self.now config.now (texts_of rows.entry)) ≡ false }
+        rows: PairedRows<'_>,
+        buf: &mut String,
+    ) -> Result<(), TableFault>
+        ensures text { OnOk result (string_bytes buf.new ≡ string_bytes buf.old ++ picture Known (spec.bounded_table self.now config.now (pairs_in rows.entry))) }
+        ensures begun { OnErr result (GainedBeginning buf.old buf.new (picture Known (spec.bounded_table self.now config.now (pairs_in rows.entry)))) }
+        ensures ok { IsOk result → spec.bounded_fault self.now config.now (pairs_in rows.entry) ≡ None }
+        ensures fault { (fault : TableFault) → result ≡ Err fault → fault ≢ TableFault.Memory → is_none (spec.bounded_fault self.now config.now (pairs_in rows.entry)) ≡ false }
     {
         let table = NaturalTable::new(rows, config, &NoColors);
         if !self.are_told() {
-            return table.to_string(alloc);
+            return table.print(alloc, buf);
         }
         let limits = self.limits(alloc, rows.count_columns())?;
         let fitted = table.within_limits(alloc, self.width(), &limits, self.overflow)?;
-        fitted.to_string(alloc)
+        fitted.print(alloc, buf)
     }
 }

@@ -13,6 +13,7 @@ mod look;
 mod numbers;
 mod omission;
 mod options;
+mod paired_rows;
 mod ranges;
 mod row_lines;
 mod rows;

@@ -1,11 +1,13 @@
 //! The text of the table of rows.
 
-ghost use Rattle.std.specs.Prelude.{◌≡◌, ◌∷◌, ◌++◌, [], string_bytes, IfOk, OnOk};
+ghost use Rattle.std.specs.Prelude.{◌≡◌, ◌∷◌, ◌++◌, [], string_bytes, IfOk, OnErr, OnOk};
+ghost use Rattle.pg_picture.specs.Appending.{GainedBeginning};
 ghost use Rattle.pg_picture.specs.Picture.{picture};
 ghost use Rattle.pg_picture.specs.Table.{Known};
 ghost use Rattle.ruled_table.specs.Bounds.{bounded_fault, bounded_table};
 ghost use Rattle.ruled_table.specs.Faults.{Tells, totals_of};
 ghost use Rattle.ruled_table.specs.LentRows.{texts_of};
+ghost use Rattle.ruled_table.specs.PairedRows.{pairs_in};
 ghost use Rattle.ruled_table.specs.Tables.{fault_with, text_with, with_line};
 ghost use Rattle.ruled_table.specs.Shown.{line_in, look_config, sided_config};
 
@@ -14,6 +16,7 @@ use crate::fault::{ViewFault, fault_in};
 use crate::lent_rows::LentRows;
 use crate::look::Look;
 use crate::options::Options;
+use crate::paired_rows::PairedRows;
 use crate::sides::set_sides;
 use pg_config::SpannedConfig;
 use pg_layout::{Entity, ExactRecords, HorizontalLine, Indent, Records, Sides};
@@ -69,33 +72,39 @@ pub(crate) fn set_line_below(
     }
 }
 
-// The picture of the table of these rows within its bounds, and a line feed.
-fn picture_of(
+// Appends the picture of the table of these rows within its bounds, and a line feed.
+fn push_picture(
     alloc: Global,
     bounds: &Bounds,
     config: &SpannedConfig,
-    rows: LentRows<'_>,
-) -> Result<String, ViewFault>
-    ensures text { IfOk result (λ text. string_bytes text ≡ picture Known (bounded_table bounds.now config.now (texts_of rows.entry)) ++ 10 ∷ []) }
-    ensures fault { Tells (totals_of (bounded_fault bounds.now config.now (texts_of rows.entry))) result }
+    rows: PairedRows<'_>,
+    buf: &mut String,
+) -> Result<(), ViewFault>
+    ensures text { OnOk result (string_bytes buf.new ≡ string_bytes buf.old ++ (picture Known (bounded_table bounds.now config.now (pairs_in rows.entry)) ++ 10 ∷ [])) }
+    ensures begun { OnErr result (GainedBeginning buf.old buf.new (picture Known (bounded_table bounds.now config.now (pairs_in rows.entry)) ++ 10 ∷ [])) }
+    ensures fault { Tells (totals_of (bounded_fault bounds.now config.now (pairs_in rows.entry))) result }
 {
-    let mut text = bounds.picture(alloc, config, rows).map_err(fault_in)?;
-    text.push('\n')?;
-    Ok(text)
+    match bounds.print(alloc, config, rows, buf) {
+        Ok(()) => Ok(buf.push('\n')?),
+        Err(fault) => Err(fault_in(fault)),
+    }
 }
 
-/// The text of the table of these rows within its bounds.
-pub(crate) fn text_with(
+/// Appends the text of the table of these rows within its bounds. If it fails, a beginning of the text
+/// is appended.
+pub(crate) fn push_text(
     alloc: Global,
     bounds: &Bounds,
     config: &SpannedConfig,
-    rows: LentRows<'_>,
-) -> Result<String, ViewFault>
-    ensures text { IfOk result (λ text. string_bytes text ≡ text_with bounds.now config.now (texts_of rows.entry)) }
-    ensures fault { Tells (fault_with bounds.now config.now (texts_of rows.entry)) result }
+    rows: PairedRows<'_>,
+    buf: &mut String,
+) -> Result<(), ViewFault>
+    ensures text { OnOk result (string_bytes buf.new ≡ string_bytes buf.old ++ text_with bounds.now config.now (pairs_in rows.entry)) }
+    ensures begun { OnErr result (GainedBeginning buf.old buf.new (text_with bounds.now config.now (pairs_in rows.entry))) }
+    ensures fault { Tells (fault_with bounds.now config.now (pairs_in rows.entry)) result }
 {
     if rows.count_rows() == 0 {
-        return Ok(String::new(alloc));
+        return Ok(());
     }
-    picture_of(alloc, bounds, config, rows)
+    push_picture(alloc, bounds, config, rows, buf)
 }
