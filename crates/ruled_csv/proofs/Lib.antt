@@ -1,5 +1,4 @@
 pub mod KeptTexts
-pub mod FirstRows
 pub mod LinesKept
 mod Scans
 pub mod Readers

@@ -1,12 +1,43 @@
-use Rattle.std.proofs.Common.{◌≡◌, ◌∙◌, ◌||◌, ◌+◌, ℕ, Bool, [], ◌∷◌, get_or, drop, sym, ap, subst, take}
-use Rattle.std.specs.Prelude.{nat_le}
-use Rattle.ruled_csv.specs.Lines.{is_comment}
-use Rattle.ruled_csv.specs.Kept.{first_row_behind, from_first_row}
+-- What comes before the first row of a text, byte by byte.
+use Rattle.std.proofs.Common.{◌≡◌, ◌∙◌, ◌||◌, ◌+◌, ℕ, Bool, [], ◌∷◌, get_or, drop, sym, ap, subst, take, ◌<◌, true, false, List, length, add-one}
+use Rattle.std.specs.Prelude.{nat_le, fold}
+use Rattle.ruled_csv.specs.Lines.{is_comment, line_behind}
+use Rattle.ruled_csv.specs.Kept.{first_row_behind, from_first_row, is_line_end}
 use Rattle.ruled_csv.specs.declared.lines.Lines.{Lines}
-use Rattle.ruled_csv.proofs.FirstRows.{first-ends, first-leaves, first-stops, lines-more}
 use Rattle.ruled_csv.proofs.TextFaults.{line-counted}
+use Rattle.std.proofs.Math.Seq.{drop-cons}
+use Rattle.std.proofs.lemmas.List.{take_more}
+use Rattle.std.proofs.lemmas.List.Sums.{fold-append}
+use Rattle.ruled_csv.specs.Inside.{lines_after, lines_start}
+use Rattle.ruled_csv.specs.declared.dialect.RowRules.{RowRules}
 use Rattle.ruled_csv.proofs.first_row.first_row.Goals as goal
 use Rattle.ruled_csv.proofs.first_row.first_row.Goals.{then-ends_line, else-ends_line+then-is_out}
+
+module _ (text : List ℕ) (i : ℕ) (within : i < length text) where
+  lines-more : (lines : Lines) → lines ≡ fold lines_after lines_start (take i text) → lines_after lines (get_or text i 0) ≡ fold lines_after lines_start (take (i + 1) text)
+  lines-more lines is =
+      ap (λ (l : Lines). lines_after l (get_or text i 0)) is
+      ∙ sym (ap (fold lines_after lines_start) (take_more text i 0 within) ∙ fold-append lines_after lines_start (take i text) (get_or text i 0 ∷ []))
+
+  module _ (rules : RowRules) (is_out : Bool) (all : List ℕ) (rest : first_row_behind rules (take i text) is_out (drop i text) ≡ all) where
+    here : drop i text ≡ get_or text i 0 ∷ drop (i + 1) text
+    here = drop-cons text i 0 within ∙ ap (λ (n : ℕ). get_or text i 0 ∷ drop n text) (sym (add-one i))
+
+    next : first_row_behind rules (take i text) is_out (get_or text i 0 ∷ drop (i + 1) text) ≡ all
+    next = rw here at rest
+
+    first-ends : is_line_end (get_or text i 0) ≡ true → first_row_behind rules (take (i + 1) text) false (drop (i + 1) text) ≡ all
+    first-ends ends = rw (take_more text i 0 within) (rw ends at next)
+
+    first-leaves : is_line_end (get_or text i 0) ≡ false → (is_out || (nat_le (line_behind (take i text)) rules.skipped || is_comment rules.comment (get_or text i 0 ∷ []))) ≡ true
+        → first_row_behind rules (take (i + 1) text) true (drop (i + 1) text) ≡ all
+    first-leaves goes out = rw (take_more text i 0 within) (rw (goes, out) at next)
+
+    first-stops : is_line_end (get_or text i 0) ≡ false → (is_out || (nat_le (line_behind (take i text)) rules.skipped || is_comment rules.comment (get_or text i 0 ∷ []))) ≡ false
+        → drop i text ≡ all
+    first-stops goes kept = here ∙ (rw (goes, kept) at next)
+
+-- ---- the goals
 
 pub returns-else-is_out-clause-rest : goal.returns-else-is_out-clause-rest
 returns-else-is_out-clause-rest c =
