@@ -90,7 +90,7 @@ module _ {Z U : Type 0} (spanned : Bool) (old new : String Z) (text : Text) wher
   pub printed-fine : (wrong : Option TableFault) (result : Result U TableFault) → Prints spanned wrong old new result text → IsOk result → wrong ≡ None
   printed-fine None result prints ok = refl
   printed-fine (Some fault) (Ok x) prints ok = elim prints.0 [ inl same ↦ absurd (cc) | inr lost ↦ let same = lost.0 in absurd (cc) ]
-  printed-fine (Some fault) (Err found) prints ok = absurd ok
+  printed-fine (Some fault) (Err found) prints ok = absurd (true≢false (sym ok))
 
   pub printed-wrong : (wrong : Option TableFault) (result : Result U TableFault) → Prints spanned wrong old new result text
       → (fault : TableFault) → result ≡ Err fault → fault ≢ table.Memory → is_none wrong ≡ false
@@ -99,8 +99,8 @@ module _ {Z U : Type 0} (spanned : Bool) (old new : String Z) (text : Text) wher
 
   pub printed-begun : (wrong : Option TableFault) (result : Result U TableFault) → Prints spanned wrong old new result text → OnErr result (GainedBeginning old new text)
   printed-begun wrong (Ok x) prints = tt
-  printed-begun (Some fault) (Err found) prints = gained-none text (ap string_bytes prints.1)
-  printed-begun None (Err found) prints = elim prints.0 [ inl appends ↦ Appends-beginning appends | inr none ↦ gained-none text (ap string_bytes none.1) ]
+  printed-begun (Some fault) (Err found) prints = gained-none text (ap (λ (s : String Z). string_bytes s) prints.1)
+  printed-begun None (Err found) prints = elim prints.0 [ inl appends ↦ Appends-beginning appends | inr none ↦ gained-none text (ap (λ (s : String Z). string_bytes s) none.1) ]
 
 -- ---- what is told where rows have no table: of the columns, or of the sizes
 
@@ -172,6 +172,10 @@ table-told right None (Ok x) same tells memory = sym same
 table-told right (Some fault) (Ok x) same tells memory = let e = tells fault refl in cc
 table-told right None (Err fault) same tells memory = λ other. absurd (other (memory fault refl refl))
 table-told right (Some found) (Err fault) same tells memory = λ other. let e = tells found refl in cc
+
+-- one that is told, and isn't want of memory
+pub wrong-told : {X : Type 0} (right : Option TableFault) (r : Result X TableFault) (fault : TableFault) → TellsTable right r → r ≡ Err fault → fault ≢ table.Memory → is_none right ≡ false
+wrong-told {X = X} right r fault told is other = ap is_none ((subst (λ (s : Result X TableFault). TellsTable right s) is told) other)
 
 -- the fault of the first call, or of the second one
 pub first-table-told : {X : Type 0} (Y : Type 0) (first later : Option TableFault) (found : TableFault) (r : Result X TableFault) → TellsTable {X = Y} first (Err found) → IsErrAnd r (λ fault. fault ≡ found) → TellsTable (option_or first later) r

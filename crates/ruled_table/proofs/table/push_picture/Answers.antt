@@ -8,16 +8,16 @@ use Rattle.ruled_table.specs.PairedRows.{pairs_in}
 use Rattle.ruled_table.proofs.Tables.{gained-first, gained-in, on-err}
 use Rattle.ruled_table.proofs.table.push_picture.Goals as goal
 
-pub returns-in-Ok-in_err-push-clause-begun : goal.returns-in-Ok-in_err-push-clause-begun
-returns-in-Ok-in_err-push-clause-begun c =
+pub returns-in_err-push-in-Ok-clause-begun : goal.returns-in_err-push-in-Ok-clause-begun
+returns-in_err-push-in-Ok-clause-begun c =
     let shown : Text = picture Known (bounded_table c.args.bounds.now c.args.config.now (pairs_in c.args.rows)) in
-    on-err c.from_residual.result (gained-first shown (10 ∷ []) (c.in_err-push.ensures.bytes ∙ c.in-Ok.ensures.text))
+    on-err c.from_residual.result (gained-first shown (10 ∷ []) (c.in_err-push-in-Ok.ensures.bytes ∙ c.in-Ok.ensures.text))
 
-pub returns-in-Ok-clause-text : goal.returns-in-Ok-clause-text
-returns-in-Ok-clause-text c =
+pub returns-in_ok-push-in-Ok-clause-text : goal.returns-in_ok-push-in-Ok-clause-text
+returns-in_ok-push-in-Ok-clause-text c =
     let old = string_bytes c.args.buf.now in
     let shown : Text = picture Known (bounded_table c.args.bounds.now c.args.config.now (pairs_in c.args.rows)) in
-    c.in_ok-push.ensures.bytes
+    c.in_ok-push-in-Ok.ensures.bytes
     ∙ ap (λ (end : Text). string_bytes c.print.new.buf ++ end) (encode_ascii 10 (omega arith))
     ∙ ap (λ (text : Text). text ++ 10 ∷ []) c.in-Ok.ensures.text
     ∙ append_assoc old shown (10 ∷ [])

@@ -17,14 +17,14 @@ returns-in_err-push_text-clause-begun c = λ options rows row has shown.
     let blocks = c.args.self.now in
     let places = c.deref.result.now in
     let table : Text = text_with blocks.options.now.bounds blocks.config (pairs_of (fields_at places (fields_of blocks.names)) (fields_at places (fields_of c.args.fields.now))) in
-    on-err c.from_residual-in_err-push_text.result
+    on-err c.from_residual.result
     (subst (GainedBeginning c.args.buf.now c.push_text.new.buf) (block-same options rows blocks has places c.deref.ensures.value (fields_of c.args.fields.now) row shown)
     (gained-in table (10 ∷ []) c.in_err-push_text.ensures.begun))
 
 pub returns-in_err-push_text-clause-fault : goal.returns-in_err-push_text-clause-fault
 returns-in_err-push_text-clause-fault c = λ options rows row has shown.
     let is = fault-same options rows c.args.self.now has c.deref.result.now c.deref.ensures.value (fields_of c.args.fields.now) row shown in
-    told_on c.in_err-push_text.field-0.0 (record_fault options rows row) c.from_residual-in_err-push_text.result (λ soft. sym is ∙ c.in_err-push_text.ensures.fault soft) c.from_residual-in_err-push_text.ensures.1
+    told_on c.in_err-push_text.field-0.0 (record_fault options rows row) c.from_residual.result (λ soft. sym is ∙ c.in_err-push_text.ensures.fault soft) c.from_residual.ensures.1
 
 pub returns-in_err-push-clause-begun : goal.returns-in_err-push-clause-begun
 returns-in_err-push-clause-begun c = λ options rows row has shown.
@@ -32,7 +32,7 @@ returns-in_err-push-clause-begun c = λ options rows row has shown.
     let places = c.deref.result.now in
     let table : Text = text_with blocks.options.now.bounds blocks.config (pairs_of (fields_at places (fields_of blocks.names)) (fields_at places (fields_of c.args.fields.now))) in
     on-err c.from_residual-in_err-push.result
-    (subst (GainedBeginning c.args.buf.now c.push.new.buf) (block-same options rows blocks has places c.deref.ensures.value (fields_of c.args.fields.now) row shown)
+    (subst (GainedBeginning c.args.buf.now c.push.new.self) (block-same options rows blocks has places c.deref.ensures.value (fields_of c.args.fields.now) row shown)
     (gained-first table (10 ∷ []) (c.in_err-push.ensures.bytes ∙ c.in_ok-push_text.ensures.text)))
 
 pub returns-clause-text : goal.returns-clause-text
