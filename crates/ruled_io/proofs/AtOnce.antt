@@ -1,6 +1,6 @@
 -- Rows that are written when all of them are there, and a run at once and one row by row.
 use Rattle.std.proofs.Common.{◌≡◌, ◌∙◌, ◌<◌, ℕ, Bool, true, false, List, [], ◌∷◌, ◌++◌, Option, Some, None, Result, Ok, Err, OnErr, OnOk, drop, length, map, refl, sym, ap, subst, arith}
-use Rattle.std.specs.Prelude.{IfErr, not, IfSome}
+use Rattle.std.specs.Prelude.{IfErr, not, IfSome, if◌then◌else◌}
 use Rattle.std.specs.List.{flat_map}
 use Rattle.std.specs.Option.{option_or}
 use Rattle.std.specs.Io.KnownBytes.{Appends}

@@ -1,4 +1,5 @@
-use Rattle.std.proofs.Common.{◌≡◌, ◌≤◌, ◌<◌, ◌∙◌, ◌-◌, ◌^◌, ℕ, List, None, Option, length, map, take, refl, sym, ap, subst, true, false, arith, if◌then◌else◌}
+use Rattle.std.proofs.Common.{◌≡◌, ◌≤◌, ◌<◌, ◌∙◌, ◌-◌, ◌^◌, ℕ, List, None, Option, length, map, take, refl, sym, ap, subst, true, false, arith}
+use Rattle.std.specs.Prelude.{if◌then◌else◌}
 use Rattle.std.specs.Option.{option_or}
 use Rattle.std.proofs.lemmas.Bool.{eqb-true}
 use Rattle.std.proofs.lemmas.List.{length-map, nil_from_length, take_all}
@@ -64,7 +65,7 @@ returns-clause-draws g c = λ named never.
     let flat : shows_blocks options given ≡ false = ap (is_in_blocks options.vertical) (sym laid) ∙ sym c.is_in_blocks.ensures ∙ c.if-is_in_blocks.false in
     let text : whole_table options given ≡ all_text options given = rw flat refl in
     let wrong : start_fault (layout_of options given) ≡ all_fault options given = sym (measured-wrong options given some never ∙ rw (fine, flat) refl) in
-    let rows : map fields_of c.deref.result.now ≡ given = ap (map fields_of) c.deref.ensures.value ∙ c.in_ok-layout.ensures.rows in
+    let rows : map fields_of c.deref-2.result.now ≡ given = ap (map fields_of) c.deref-2.ensures.value ∙ c.in_ok-layout.ensures.rows in
     let drawn : Draws (whole_table options given) (start_fault (layout_of options given)) old new c.show_table.result =
     subst (λ (rs : List (List Text)). plan_in c.in_ok-layout.layout ≡ layout_of options rs → Draws (whole_table options rs) (start_fault (layout_of options rs)) old new c.show_table.result) rows c.show_table.ensures.draws laid
     in
