@@ -4,7 +4,7 @@ use Rattle.std.specs.Option.{option_map_or}
 use Rattle.std.specs.Str.{str_eq_ignore_ascii_case}
 use Rattle.sqlite_format.specs.declared.kind.Tree.{Tree}
 use Rattle.sqlite_format.specs.declared.kind.Tree.TheVariants.{Table, Index}
-use Rattle.sqlite_sql.specs.Numeral.{is_numeral, number_at_front}
+use Rattle.sqlite_sql.specs.Numeral.{is_numeral, number_at_front, real_at_front}
 use Rattle.sqlite_value.specs.declared.value.Value.{Value}
 use Rattle.sqlite_value.specs.declared.value.Value.TheVariants.{Null, Int, Real, Text, Blob}
 use Rattle.ruled_database.specs.Tokens.{has_sign, has_word, is_sign, read, says}
@@ -64,29 +64,33 @@ names_real text = has_part (codes "real") text || has_part (codes "floa") text |
 abbrev pub is_integral : List ℕ → Bool
 is_integral text = has_part (codes "int") text
 
--- a type that names INT is one of integers, one that names a text or bytes keeps texts, and another may be one of floats
-abbrev pub keeps_texts : List ℕ → Bool
-keeps_texts text = not (is_integral text) && (names_text text || names_blob text)
+-- ANY is a type of its own in a strict table alone
+unfoldable pub names_any : Bool → List ℕ → Bool
+names_any strict text = strict && str_eq_ignore_ascii_case text (codes "any ")
 
-unfoldable pub kind_of : List ℕ → Kind
-kind_of text = record {
-  real = not (is_integral text) && not (keeps_texts text) && names_real text;
-  keeps_texts = keeps_texts text;
+-- a type that names INT is one of integers, one that names a text or bytes keeps texts, and another may be one of floats
+abbrev pub keeps_texts : Bool → List ℕ → Bool
+keeps_texts strict text = not (is_integral text) && (names_text text || names_blob text || names_any strict text)
+
+unfoldable pub kind_of : Bool → List ℕ → Kind
+kind_of strict text = record {
+  real = not (is_integral text) && not (keeps_texts strict text) && names_real text;
+  keeps_texts = keeps_texts strict text;
   integer = str_eq_ignore_ascii_case text (codes "integer ");
 }
 
 -- ---- defaults
 
--- an integer is the same in each column, and a float in those of floats; no other number is understood
-abbrev pub number_in : Kind → Value → Option Value
-number_in kind Null = None
-number_in kind (Int n) = Some (Int n)
-number_in kind (Real x) = if kind.real then Some (Real x) else None
-number_in kind (Text text) = None
-number_in kind (Blob bytes) = None
+abbrev pub if_integer : Value → Option Value
+if_integer Null = None
+if_integer (Int n) = Some (Int n)
+if_integer (Real x) = None
+if_integer (Text text) = None
+if_integer (Blob bytes) = None
 
+-- a number is a float in a column of floats; in another one only an integer is understood
 unfoldable pub number_of : Kind → List ℕ → Option Value
-number_of kind text = if is_numeral text then number_in kind (number_at_front text) else None
+number_of kind text = if not (is_numeral text) then None else if kind.real then Some (Real (real_at_front text)) else if_integer (number_at_front text)
 
 unfoldable pub word_value : Kind → Token → Option Value
 word_value kind it =
@@ -193,7 +197,7 @@ has word tokens = option_map_or (λ rest. true) (after word tokens) false
 
 -- a column AS an expression, which isn't STORED
 unfoldable pub is_computed : List Token → Bool
-is_computed rules = has (codes "as") rules && not (has (codes "stored") rules)
+is_computed rules = option_map_or (λ rest. not (has (codes "stored") rest)) (after (codes "as") rules) false
 
 abbrev pub with_column : List ℕ → Shown → ℕ → Definition → Definition
 with_column name shown place it = record it { columns = it.columns ++ record { name = name; shown = shown; place = place } ∷ [] }
@@ -217,7 +221,7 @@ is_rowid kind key name rules = kind.integer && length key == 1 && has_name key n
 -- a column more: `rowid` is the key of a table with rowids, and `first` that of a table without them
 unfoldable pub declared : List (List ℕ) → List (List ℕ) → Token → List Token → Definition → Definition
 declared rowid first name rules it =
-    let kind = kind_of (type_of rules) in
+    let kind = kind_of it.strict (type_of rules) in
     placed (place_from 0 first name.text) name.text (shown_of kind (is_rowid kind rowid name.text rules)) (default_of kind rules) (with_computed (is_computed rules) it)
 
 abbrev pub with_part : List (List ℕ) → List (List ℕ) → Definition → List Token → Definition
@@ -234,16 +238,17 @@ abbrev pub says_any : List ℕ → List Token → Bool
 says_any word [] = false
 says_any word (it ∷ rest) = if says word it then true else says_any word rest
 
--- WITHOUT ROWID, behind CREATE TABLE and a name
-abbrev pub is_keyed : List Token → Bool
-is_keyed [] = false
-is_keyed (create ∷ []) = false
-is_keyed (create ∷ (table ∷ [])) = false
-is_keyed (create ∷ (table ∷ (name ∷ rest))) = says_any (codes "without") rest
+-- a word of an option, as WITHOUT ROWID or STRICT, behind CREATE TABLE and a name
+abbrev pub has_option : List ℕ → List Token → Bool
+has_option word [] = false
+has_option word (create ∷ []) = false
+has_option word (create ∷ (table ∷ [])) = false
+has_option word (create ∷ (table ∷ (name ∷ rest))) = says_any word rest
 
 -- a table without columns as yet, whose records begin with these
-abbrev pub begun : Tree → List (List ℕ) → Definition
-begun tree first = record { columns = []; defaults = map (λ name. Null) first; least = length first; computed = false; tree = tree; known = true }
+abbrev pub begun : Bool → Tree → List (List ℕ) → Definition
+begun strict tree first =
+    record { strict = strict; columns = []; defaults = map (λ name. Null) first; least = length first; computed = false; tree = tree; known = true }
 
 -- there is a key, and a record has a value for each column and no other one
 abbrev pub with_known : List (List ℕ) → Definition → Definition
@@ -254,16 +259,18 @@ abbrev pub first_of : List ℕ → List (List ℕ) → List (List ℕ)
 first_of statement key = if has_part (codes "collate") statement then key else distinct [] key
 
 -- a table without rowids
-abbrev pub keyed_definition : List (List ℕ) → List (List Token) → Definition
-keyed_definition first parts = with_known first (with_parts [] first (begun Index first) parts)
+abbrev pub keyed_definition : Bool → List (List ℕ) → List (List Token) → Definition
+keyed_definition strict first parts = with_known first (with_parts [] first (begun strict Index first) parts)
 
 -- a table with rowids, which may be this key
-abbrev pub rowid_definition : List (List ℕ) → List (List Token) → Definition
-rowid_definition key parts = with_parts key [] (begun Table []) parts
+abbrev pub rowid_definition : Bool → List (List ℕ) → List (List Token) → Definition
+rowid_definition strict key parts = with_parts key [] (begun strict Table []) parts
 
 -- the columns of a statement, in its order
 unfoldable pub definition_of : List ℕ → Definition
 definition_of statement =
     let parts = (read statement).parts in
+    let options = (read statement).outside in
+    let strict = has_option (codes "strict") options in
     let key = key_of parts in
-    if is_keyed (read statement).outside then keyed_definition (first_of statement key) parts else rowid_definition key parts
+    if has_option (codes "without") options then keyed_definition strict (first_of statement key) parts else rowid_definition strict key parts

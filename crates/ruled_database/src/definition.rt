@@ -7,7 +7,7 @@ ghost use Rattle.ruled_database.specs.Definitions as spec;
 use crate::token::{Form, Token, read};
 use sqlite_format::Tree;
 use sqlite_items::Items;
-use sqlite_sql::numeral::{is_numeral, number_at_front};
+use sqlite_sql::numeral::{is_numeral, number_at_front, real_at_front};
 use sqlite_value::row::Row;
 use sqlite_value::value::ValueRef;
 use std::alloc::{AllocError, Global};
@@ -35,6 +35,8 @@ pub(crate) struct Column {
 /// What a table has.
 #[derive(Drop)]
 pub(crate) struct Definition {
+    /// Whether ANY is a type of its own.
+    strict: bool,
     pub(crate) columns: Items<Column>,
     /// The values of a record that lacks them, since it is older than their columns.
     pub(crate) defaults: Row,
@@ -171,13 +173,22 @@ fn names_real(text: &[u8]) -> bool
     has_part(text, b"real") || has_part(text, b"floa") || has_part(text, b"doub")
 }
 
+#[tactic(auto, unfolding(crate::specs::Definitions::names_any))]
+// Whether a type is ANY, in a table where that is a type of its own.
+fn names_any(strict: bool, text: &[u8]) -> bool
+    ensures { result ≡ spec.names_any strict text.now }
+{
+    strict && text.eq_ignore_ascii_case(b"any ")
+}
+
 #[tactic(auto, unfolding(crate::specs::Definitions::kind_of))]
 // What a type says.
-fn kind_of(text: &[u8]) -> Kind
-    ensures { result ≡ spec.kind_of text.now }
+fn kind_of(strict: bool, text: &[u8]) -> Kind
+    ensures { result ≡ spec.kind_of strict text.now }
 {
     let is_integer = has_part(text, b"int");
-    let keeps_texts = !is_integer && (names_text(text) || names_blob(text));
+    let keeps_texts = !is_integer
+        && (names_text(text) || names_blob(text) || names_any(strict, text));
     Kind {
         real: !is_integer && !keeps_texts && names_real(text),
         keeps_texts,
@@ -193,9 +204,11 @@ fn number_of<'t>(kind: Kind, text: &[u8]) -> Option<ValueRef<'t>>
     if !is_numeral(text) {
         return None;
     }
+    if kind.real {
+        return Some(ValueRef::Real(real_at_front(text)));
+    }
     match number_at_front(text) {
         ValueRef::Int(n) => Some(ValueRef::Int(n)),
-        ValueRef::Real(x) if kind.real => Some(ValueRef::Real(x)),
         _ => None,
     }
 }
@@ -418,13 +431,21 @@ fn shown_of(kind: Kind, is_rowid: bool) -> Shown
 fn is_computed(rules: &[Token]) -> bool
     ensures { result ≡ spec.is_computed rules.now }
 {
-    after(rules, b"as").is_some() && after(rules, b"stored").is_none()
+    match after(rules, b"as") {
+        Some(rest) => after(rest, b"stored").is_none(),
+        None => false,
+    }
 }
 
 impl Definition {
     // A table without columns as yet, whose records begin with these.
-    fn begun(alloc: Global, tree: Tree, mut first: &[&[u8]]) -> Result<Definition, AllocError>
-        ensures { IfOk result (λ it. it ≡ spec.begun tree (map (λ name. name.now) first.entry.now)) }
+    fn begun(
+        alloc: Global,
+        strict: bool,
+        tree: Tree,
+        mut first: &[&[u8]],
+    ) -> Result<Definition, AllocError>
+        ensures { IfOk result (λ it. it ≡ spec.begun strict tree (map (λ name. name.now) first.entry.now)) }
     {
         let least = first.len();
         let mut defaults = Row::new(alloc);
@@ -433,6 +454,7 @@ impl Definition {
             first = rest;
         }
         Ok(Definition {
+            strict,
             columns: Items::new(alloc),
             defaults,
             least,
@@ -489,7 +511,7 @@ impl Definition {
         }
         let name = name.text.as_slice();
         let text = type_of(alloc, rules)?;
-        let kind = kind_of(&text);
+        let kind = kind_of(self.strict, &text);
         let shown = shown_of(kind, is_rowid(kind, rowid, name, rules));
         self.computed = self.computed || is_computed(rules);
         if let Some(place) = place_in(first, name) {
@@ -533,12 +555,12 @@ fn says_any(mut tokens: &[Token], word: &[u8]) -> bool
     false
 }
 
-// Whether a table has no rowids, by the tokens outside of parentheses.
-fn is_keyed(tokens: &[Token]) -> bool
-    ensures { result ≡ spec.is_keyed tokens.now }
+// Whether a word is one of the options of a table, by the tokens outside of parentheses.
+fn has_option(tokens: &[Token], word: &[u8]) -> bool
+    ensures { result ≡ spec.has_option word.now tokens.now }
 {
     match tokens {
-        [_, _, _, options @ ..] => says_any(options, b"without"),
+        [_, _, _, options @ ..] => says_any(options, word),
         _ => false,
     }
 }
@@ -561,12 +583,13 @@ fn first_of<'k>(
 // What a table without rowids has, in whose records these columns come first.
 fn keyed_definition(
     alloc: Global,
+    strict: bool,
     first: &[&[u8]],
     parts: &[Items<Token>],
 ) -> Result<Definition, AllocError>
-    ensures { IfOk result (λ it. it ≡ spec.keyed_definition (map (λ name. name.now) first.now) parts.now) }
+    ensures { IfOk result (λ it. it ≡ spec.keyed_definition strict (map (λ name. name.now) first.now) parts.now) }
 {
-    let begun = Definition::begun(alloc, Tree::Index, first)?;
+    let begun = Definition::begun(alloc, strict, Tree::Index, first)?;
     let mut definition = begun.with_parts(alloc, &[], first, parts)?;
     definition.known = !first.is_empty() && definition.columns.len() == definition.defaults.len();
     Ok(definition)
@@ -575,12 +598,13 @@ fn keyed_definition(
 // What a table with rowids has, which may be this key.
 fn rowid_definition(
     alloc: Global,
+    strict: bool,
     key: &[&[u8]],
     parts: &[Items<Token>],
 ) -> Result<Definition, AllocError>
-    ensures { IfOk result (λ it. it ≡ spec.rowid_definition (map (λ name. name.now) key.now) parts.now) }
+    ensures { IfOk result (λ it. it ≡ spec.rowid_definition strict (map (λ name. name.now) key.now) parts.now) }
 {
-    let begun = Definition::begun(alloc, Tree::Table, &[])?;
+    let begun = Definition::begun(alloc, strict, Tree::Table, &[])?;
     begun.with_parts(alloc, key, &[], parts)
 }
 
@@ -591,11 +615,13 @@ pub(crate) fn definition_of(alloc: Global, statement: &[u8]) -> Result<Definitio
 {
     let tokens = read(alloc, statement)?;
     let parts = tokens.parts.as_slice();
+    let options = tokens.outside.as_slice();
+    let strict = has_option(options, b"strict");
     let key = key_of(alloc, parts)?;
-    if is_keyed(tokens.outside.as_slice()) {
+    if has_option(options, b"without") {
         let first = first_of(alloc, statement, key)?;
-        keyed_definition(alloc, &first, parts)
+        keyed_definition(alloc, strict, &first, parts)
     } else {
-        rowid_definition(alloc, &key, parts)
+        rowid_definition(alloc, strict, &key, parts)
     }
 }
