@@ -94,7 +94,7 @@ const FLAG: Choice = Choice {
 };
 
 /// All arguments, in the order of the help.
-const CHOICES: [Choice; 29] = [
+const CHOICES: [Choice; 30] = [
     Choice {
         name: "file",
         value: "FILE",
@@ -116,6 +116,13 @@ const CHOICES: [Choice; 29] = [
         value: "SQL",
         takes: Takes::Text,
         help: "Print the rows that this SQL statement reads from a database, or from the table input, which has the rows of any other file",
+        ..FLAG
+    },
+    Choice {
+        name: "limit-steps",
+        value: "N",
+        takes: Takes::Number,
+        help: "Refuse a query that reads and returns more than N rows; without it the limit is 100 million",
         ..FLAG
     },
     Choice {

@@ -6,6 +6,9 @@ use ruled_table::Options;
 use std::alloc::{AllocError, Global};
 use std::mem;
 
+/// How many steps a query may take where no argument says it: some 20 seconds.
+const STEPS: u32 = 100_000_000;
+
 // The sign that a word is: one byte of ASCII that is no quote and ends no line.
 fn sign_of(word: &str) -> Option<u8> {
     match word.as_bytes() {
@@ -214,6 +217,7 @@ fn query_of(
         table: String::from_str(alloc, table_named(name_in(found)))?,
         names: mem::replace(&mut view.names, Vec::new(alloc)),
         is_padded: mem::replace(&mut view.is_padded, false),
+        steps: u64::from(found.get_one::<u32>("limit-steps").unwrap_or(STEPS)),
     })
 }
 

@@ -68,6 +68,7 @@ fn query_of(alloc: Global, text: String, known: Option<Known>) -> Result<Query, 
         table: "shop".to_string(alloc)?,
         names: Vec::new(alloc),
         is_padded: false,
+        steps: 1_000_000,
     })
 }
 
@@ -148,6 +149,13 @@ fn set_value(request: &mut Request, name: &str, value: &str) -> Option<()> {
     match name {
         "stream" => request.rows = Rows::FromFirst(value.parse().ok()?),
         "log" => request.source.set_log(log_of(value)?),
+        "steps" => match &mut request.source {
+            Source::Database {
+                selection: Selection::Query(query),
+                ..
+            } => query.steps = value.parse().ok()?,
+            _ => return None,
+        },
         "no-header" => view.has_header = false,
         "number" => view.is_numbered = true,
         "omit" => view.is_omitting = true,

@@ -24,9 +24,9 @@ table_of query rows = if query.is_padded then padded (named (map string_bytes qu
 
 -- what a query answers of these rows, or of a database
 abbrev pub AreAnswer : Option Known → Query → List ℕ → List (List Text) → Type 0
-AreAnswer None query bytes rows = AreAnswered bytes (string_bytes query.text) rows
+AreAnswer None query bytes rows = AreAnswered bytes (string_bytes query.text) query.steps rows
 AreAnswer (Some known) query bytes rows =
-    (input_fault None known bytes ≡ None) × AreQueried (string_bytes query.table) (table_of query (rows_in None known bytes)) (string_bytes query.text) rows
+    (input_fault None known bytes ≡ None) × AreQueried (string_bytes query.table) (table_of query (rows_in None known bytes)) (string_bytes query.text) query.steps rows
 
 -- what a query answers, the rows of a table, or the list of the tables
 abbrev pub AreSelected : Option Selection → List ℕ → List (List Text) → Type 0

@@ -44,7 +44,8 @@ fn queried_rows(
 {
     let rows = rows_in(alloc, known, bytes)?;
     let table = table_of(alloc, query, rows)?;
-    Ok(query_table(alloc, query.table.as_str(), &table, query.text.as_str())?)
+    let text = query.text.as_str();
+    Ok(query_table(alloc, query.table.as_str(), &table, text, query.steps)?)
 }
 
 // The rows that a query answers.
@@ -54,7 +55,7 @@ fn answer_rows(alloc: Global, query: &Query, bytes: &[u8]) -> Result<Vec<StringR
 {
     match query.known_in(bytes) {
         Some(known) => queried_rows(alloc, query, known, bytes),
-        None => Ok(query_rows(alloc, bytes, query.text.as_str())?),
+        None => Ok(query_rows(alloc, bytes, query.text.as_str(), query.steps)?),
     }
 }
 

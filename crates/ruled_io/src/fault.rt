@@ -7,11 +7,11 @@ ghost use Rattle.ruled_io.specs.declared.fault.InputFault.TheVariants.{Memory};
 ghost use Rattle.ruled_io.specs.declared.fault.RunFault.TheVariants.{Input};
 
 use crate::name::Quoted;
-use crate::request::{Log, Request, Selection};
+use crate::request::{Log, Query, Request, Selection};
 use ruled_csv::RowsFault;
 use ruled_database::{DatabaseFault, TableFault};
 use ruled_json::JsonFault;
-use ruled_sql::{QueryFault, SqlFault};
+use ruled_sql::{QueryFault, Refusal, SqlFault};
 use ruled_table::ViewFault;
 use std::alloc::{AllocError, AllocFailed};
 use std::io::Write;
@@ -196,11 +196,8 @@ impl InputFault {
         match self {
             InputFault::Rows(fault) => writeln!(err, "{fault}"),
             InputFault::Json(fault) => writeln!(err, "{fault}"),
-            InputFault::Sql(fault) => match (fault, request.source.selection()) {
-                (SqlFault::NoTable, Some(Selection::Query(query))) => {
-                    let name = Quoted(query.table.as_str());
-                    writeln!(err, "{fault}: the table of the rows is {name}, or input")
-                }
+            InputFault::Sql(fault) => match request.source.selection() {
+                Some(Selection::Query(query)) => tell_refusal(fault, query, err),
                 _ => writeln!(err, "{fault}"),
             },
             InputFault::Database(fault) => match request.source.selection() {
@@ -217,6 +214,27 @@ impl InputFault {
             InputFault::Totals => writeln!(err, "the sizes are too large"),
             InputFault::Memory => writeln!(err, "out of memory"),
         }
+    }
+}
+
+// The word of a query from which so many bytes are left, up to a blank.
+fn word_at(query: &str, left: usize) -> &str {
+    let rest = query.get(query.len().saturating_sub(left)..).unwrap_or("");
+    rest.split_once(' ').map_or(rest, |(word, _)| word)
+}
+
+// Writes the error line of a query that has no rows. An error is the writer's.
+fn tell_refusal<W: Write>(fault: SqlFault, query: &Query, err: &mut W) -> io::Result<()> {
+    let text = query.text.as_str();
+    let refusal = Refusal { fault, query: text };
+    if let SqlFault::NoTable = fault {
+        let name = Quoted(query.table.as_str());
+        return writeln!(err, "{refusal}: the table of the rows is {name}, or input");
+    }
+    match refusal.left() {
+        Some(0) => writeln!(err, "{refusal} at the end of the query"),
+        Some(left) => writeln!(err, "{refusal}: {}", Quoted(word_at(text, left))),
+        None => writeln!(err, "{refusal}"),
     }
 }
 

@@ -46,6 +46,8 @@ pub struct Query {
     pub names: Vec<String>,
     /// Whether row 0 has as many columns as the longest row.
     pub is_padded: bool,
+    /// How many steps it may take: each row that it reads or returns is one.
+    pub steps: u64,
 }
 
 // Whether these bytes are a database, where this is known of the format of rows.

@@ -8,6 +8,7 @@ use Rattle.sqlite_value.specs.Order.{Row, column}
 use Rattle.sqlite_value.specs.declared.value.Value.{Value}
 use Rattle.sqlite_value.specs.declared.value.Value.TheVariants.{Null}
 use Rattle.sqlite_disk.specs.declared.Disk.{Ghosts}
+use Rattle.sqlite_trees.specs.declared.store.Store.{Ghosts as StoreGhosts}
 use Rattle.sqlite_pool.specs.Pool.{files}
 use Rattle.sqlite_pool.proofs.StateLemmas.{clean_is}
 use Rattle.sqlite_store.specs.declared.store.FileStore.{FileStore}
@@ -15,10 +16,10 @@ use Rattle.sqlite_trees.proofs.Doubt.{no_doubt}
 use Rattle.sqlite_schema.specs.declared.command.Returning.{Returning}
 use Rattle.sqlite_resolve.specs.declared.compiled.Compiled.{Compiled}
 use Rattle.sqlite_resolve.specs.declared.error.CompileError.{CompileError}
-use Rattle.sqlite.specs.Does.{Does}
+use Rattle.sqlite.specs.Does.{Does, IsWithin}
 use Rattle.sqlite.specs.Effect.{Database}
 use Rattle.sqlite.specs.Files.{AreFoundIn, file_state}
-use Rattle.sqlite.specs.Held.{Held}
+use Rattle.sqlite.specs.Held.{Held, state}
 use Rattle.sqlite.specs.Listing.{IsSourceOf, reads_listing, understood}
 use Rattle.sqlite.specs.Outline.{Outline}
 use Rattle.sqlite.specs.Start.{FindsIn}
@@ -49,33 +50,45 @@ held bytes s opens live found = record {
 
 -- ---- answers
 
+-- what a limit of steps leaves and sets
+module _ {S : Type 0} (over : StoreGhosts S) (old new : Held S) (limit : Option ℕ) (is : new ≡ record old { step_limit = limit }) where
+  pub limited_now : (state over new).now ≡ (state over old).now
+  limited_now = ap (λ (it : Held S). (state over it).now) is
+
+  pub limited_changes : (state over new).changes ≡ (state over old).changes
+  limited_changes = ap (λ (it : Held S). (state over it).changes) is
+
+  pub limited_steps : (state over new).step_limit ≡ limit
+  limited_steps = ap (λ (it : Held S). (state over it).step_limit) is
+
 named_as : (known : Result Compiled CompileError) (c : Compiled) (it : Outline) → known ≡ Ok c → Outlines known it → it.columns ≡ column_names c
 named_as known c it is outlines = let known : Outlines (Ok c) it = subst (λ k. Outlines k it) is outlines in known.2
 
-module _ (query : List ℕ) (old mid new : State) (rows : List Row) where
-  shows : old.changes ≡ 0 → old.step_limit ≡ None → IsUnchanged old mid → mid.step_limit ≡ old.step_limit → new.changes ≡ 0 → (c : Compiled) (params : Row) (returning : Option Returning)
-      → ShowsRows mid new query c params rows returning → Shows query old.now c params rows returning
-  shows uncounted unlimited same limit none c params None h =
+module _ (query : List ℕ) (steps : ℕ) (old mid new : State) (rows : List Row) where
+  shows : old.changes ≡ 0 → old.step_limit ≡ Some steps → IsUnchanged old mid → mid.step_limit ≡ old.step_limit → new.changes ≡ 0 → (c : Compiled) (params : Row) (returning : Option Returning)
+      → ShowsRows mid new query c params rows returning → Shows query steps old.now c params rows returning
+  shows uncounted limited same limit none c params None h =
       (h.0, subst (λ (db : Database). IsSourceOf (reads_listing db.schema query) db h.0) same.0.now_is h.1, h.2)
-  shows uncounted unlimited same limit none c params (Some what) h =
+  shows uncounted limited same limit none c params (Some what) h =
       let w = h.1 in
       let before : mid.changes ≡ 0 = same.1.changes ∙ uncounted in
       let counted : unwrap_or w.tally.rows 0 ≡ 0 = ap (unwrap_or w.tally.rows) (sym before) ∙ sym w.changes ∙ none in
-      let changed = subst₂ (λ (most : Option ℕ) (db : Database). Does most (mode_of mid) params db (text_of query c) (Some what) c.command (Ok (w.tally, new.now))) (limit ∙ unlimited) same.0.now_is w.changed in
+      let changed = subst₂ (λ (most : Option ℕ) (db : Database). Does most (mode_of mid) params db (text_of query c) (Some what) c.command (Ok (w.tally, new.now))) (limit ∙ limited) same.0.now_is w.changed in
       (w.tally, new.now, changed, counted, h.2)
 
-  pub answers : (it : Outline) → old.changes ≡ 0 → old.step_limit ≡ None → IsUnchanged old mid → mid.step_limit ≡ old.step_limit → it.text ≡ query → Outlines (understood old.now.schema query) it
-      → Shown it.text [] mid new rows → new.changes ≡ 0 → IsAnswer query old.now it.columns rows
+  pub answers : (it : Outline) → old.changes ≡ 0 → old.step_limit ≡ Some steps → IsUnchanged old mid → mid.step_limit ≡ old.step_limit → it.text ≡ query → Outlines (understood old.now.schema query) it
+      → Shown it.text [] mid new rows → new.changes ≡ 0 → IsWithin mid.step_limit (length rows) → IsAnswer query steps old.now it.columns rows
   unfolding Shown
-  answers it uncounted unlimited same limit text outlines shown none =
+  answers it uncounted limited same limit text outlines shown none few =
       let h = subst (λ (sql : List ℕ). Shown sql [] mid new rows) text shown in
       let is : understood old.now.schema query ≡ Ok h.0 = subst (λ (db : Database). understood db.schema query ≡ Ok h.0) same.0.now_is h.1.is in
       record {
         statement = h.0;
         means = record { is = is; whole = h.1.whole; bare = sym h.1.given };
         time = h.1.now;
-        shows = shows uncounted unlimited same limit none h.0 _ h.0.returning h.2;
+        shows = shows uncounted limited same limit none h.0 _ h.0.returning h.2;
         named = named_as (understood old.now.schema query) h.0 it is outlines;
+        within = subst (λ (most : Option ℕ). IsWithin most (length rows)) (limit ∙ limited) few;
       }
 
 -- ---- rows that are made one after another

@@ -1,5 +1,5 @@
 -- The rows that a query answers of the database that bytes hold.
-use Rattle.std.specs.Prelude.{◌≡◌, ◌≤◌, ℕ, false, List, [], ◌∷◌, length, map, Option, Some, None, unwrap_or, Ok, ◌+◌, ◌*◌, ◌/◌, ◌==◌, max, min, slice_index_or, if◌then◌else◌}
+use Rattle.std.specs.Prelude.{◌≡◌, ◌<◌, ◌≤◌, ℕ, false, List, [], ◌∷◌, length, map, Option, Some, None, unwrap_or, Ok, ◌+◌, ◌*◌, ◌/◌, ◌==◌, max, min, slice_index_or, if◌then◌else◌}
 use Rattle.sqlite_value.specs.Order.{Row}
 use Rattle.sqlite_trees.specs.Tree.{Trees}
 use Rattle.sqlite_wal.specs.Recovery.{Image}
@@ -39,23 +39,24 @@ pub record Means (query : List ℕ) (db : Database) (c : Compiled) : Type 0 wher
   pub whole : length query ≤ c.tail
   pub bare : length c.names ≡ 0
 
-module _ (query : List ℕ) (db : Database) (c : Compiled) (params : Row) (rows : List Row) where
+module _ (query : List ℕ) (steps : ℕ) (db : Database) (c : Compiled) (params : Row) (rows : List Row) where
   -- the rows are what a statement reads; or what one that changes no row returns
   abbrev pub Shows : Option Returning → Type 0
   Shows None = (source : Database) × IsSourceOf (reads_listing db.schema query) db source × Reads c.command source params rows
   Shows (Some what) =
       (tally : Tally) × (after : Database)
-      × Does None (record { keys = Enforced; in_doubt = false; may_wait = false }) params db (text_of query c) (Some what) c.command (Ok (tally, after))
+      × Does (Some steps) (record { keys = Enforced; in_doubt = false; may_wait = false }) params db (text_of query c) (Some what) c.command (Ok (tally, after))
       × (unwrap_or tally.rows 0 ≡ 0) × (rows ≡ tally.shown)
 
--- the names of its columns, and its rows
-pub record IsAnswer (query : List ℕ) (db : Database) (names : List (List ℕ)) (rows : List Row) : Type 0 where
+-- the names of its columns, and its rows, each of which takes a step
+pub record IsAnswer (query : List ℕ) (steps : ℕ) (db : Database) (names : List (List ℕ)) (rows : List Row) : Type 0 where
   pub statement : Compiled
   pub means : Means query db statement
   -- in milliseconds, where the statement reads the time
   pub time : ℕ
-  pub shows : Shows query db statement (timed [] statement.formats time) rows statement.returning
+  pub shows : Shows query steps db statement (timed [] statement.formats time) rows statement.returning
   pub named : names ≡ column_names statement
+  pub within : length rows < steps
 
 -- ---- texts
 
@@ -63,13 +64,13 @@ pub record IsAnswer (query : List ℕ) (db : Database) (names : List (List ℕ))
 abbrev pub shown_rows : List (List ℕ) → List Row → List (List (List ℕ))
 shown_rows names rows = names ∷ map (map shown_text) rows
 
--- the rows that a query answers of the database that bytes hold
-pub record AreAnswered (bytes query : List ℕ) (rows : List (List (List ℕ))) : Type 0 where
+-- the rows that a query answers of the database that bytes hold, in so many steps at most
+pub record AreAnswered (bytes query : List ℕ) (steps : ℕ) (rows : List (List (List ℕ))) : Type 0 where
   pub database : Database
   pub held : IsHeld bytes database
   pub names : List (List ℕ)
   pub answer : List Row
-  pub is : IsAnswer query database names answer
+  pub is : IsAnswer query steps database names answer
   pub shown : rows ≡ shown_rows names answer
 
 -- ---- the pages of a database

@@ -1,5 +1,5 @@
 -- The database that a table of rows fills, and the rows that a query reads from it.
-use Rattle.std.specs.Prelude.{◌≡◌, ◌⊎◌, ℕ, ◌+◌, ◌-◌, ◌==◌, ◌&&◌, ◌||◌, not, nat_le, nat_lt, Bool, true, false, List, [], ◌∷◌, ◌++◌, length, map, take, drop, position, nat_eq, slice_index_or, codes, decimal, chars, Option, Some, None, Ok, if◌then◌else◌}
+use Rattle.std.specs.Prelude.{◌≡◌, ◌⊎◌, ℕ, ◌+◌, ◌-◌, ◌==◌, ◌&&◌, ◌||◌, not, nat_le, nat_lt, Bool, true, List, [], ◌∷◌, ◌++◌, length, map, take, drop, position, nat_eq, slice_index_or, codes, decimal, chars, Option, Some, None, Ok, if◌then◌else◌}
 use Rattle.std.specs.Char.{encode_utf8}
 use Rattle.std.specs.Cmp.Lexicographic.{pointwise}
 use Rattle.std.specs.Int.{is_in_range}
@@ -148,13 +148,13 @@ pub record IsBlank (connection : Held MemStore) : Type 0 where
 abbrev pub IsFilled : List Step → Held MemStore → Type 0
 IsFilled all connection = (blank : Held MemStore) × IsBlank blank × AreRun all blank connection
 
--- the rows that a query answers of a table of rows, which has this name or is called `input`
-pub record AreQueried (name : List ℕ) (table : List (List (List ℕ))) (query : List ℕ) (rows : List (List (List ℕ))) : Type 0 where
+-- the rows that a query answers of a table of rows, which has this name or is called `input`, in so many steps at most
+pub record AreQueried (name : List ℕ) (table : List (List (List ℕ))) (query : List ℕ) (most : ℕ) (rows : List (List (List ℕ))) : Type 0 where
   pub called : List ℕ
   pub either : (called ≡ name) ⊎ (called ≡ codes "input")
   pub connection : Held MemStore
   pub filled : IsFilled (steps called table) connection
   pub names : List (List ℕ)
   pub answer : List Row
-  pub is : IsAnswer query (state over_memory connection).now names answer
+  pub is : IsAnswer query most (state over_memory connection).now names answer
   pub shown : rows ≡ shown_rows names answer

@@ -1,6 +1,6 @@
 //! A database over bytes in memory.
 
-ghost use Rattle.std.specs.Prelude.{◌≡◌, None, Err, IfOk, IsTrue};
+ghost use Rattle.std.specs.Prelude.{◌≡◌, Err, IfOk, IsTrue};
 ghost use Rattle.sqlite.specs.Files.{IsOpened, file_state};
 ghost use Rattle.sqlite.specs.Held.{IsNew, state};
 ghost use Rattle.sqlite.specs.Start.{FindsIn};
@@ -77,14 +77,16 @@ pub(crate) struct Answer {
     pub(crate) rows: Vec<Row>,
 }
 
-/// What a query answers over a connection that counts no changed row.
+/// What a query answers in so many steps at most, over a connection that counts no changed row.
 pub(crate) fn answer_of<S: Alter>(
     connection: &mut Connection<S>,
     query: &str,
+    steps: u64,
 ) -> Result<Answer, QueryFault>
-    ensures { HasCleanDisk (state S.Store connection.new) → connection.old.changes ≡ 0 → connection.old.step_limit ≡ None
-        → IfOk result (λ it. IsAnswer query.now (state S.Store connection.old).now it.statement.columns it.rows.items) }
+    ensures { HasCleanDisk (state S.Store connection.new) → connection.old.changes ≡ 0
+        → IfOk result (λ it. IsAnswer query.now steps (state S.Store connection.old).now it.statement.columns it.rows.items) }
 {
+    connection.set_step_limit(Some(steps));
     let statement = connection.prepare(query)?;
     let rows = statement.query_all(connection, &[])?;
     if connection.changes() > 0 {

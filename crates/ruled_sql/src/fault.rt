@@ -91,6 +91,9 @@ impl Display for QueryFault {
 
     fn fmt<W: fmt::Write>(&self, f: &mut fmt::Formatter<W>) -> fmt::Result {
         match self {
+            QueryFault::Refused(Error::SqliteFailure(ErrorCode::OperationInterrupted)) => {
+                f.write_str("the query takes too many steps; see --limit-steps")
+            }
             QueryFault::Refused(Error::SqlInputError(error)) => {
                 write!(
                     f,
@@ -114,7 +117,7 @@ impl Display for SqlFault {
             SqlFault::Database => {
                 "not an SQLite database, or it is encrypted or of an unsupported kind"
             }
-            SqlFault::Damage => "the database is damaged, or of an unsupported kind",
+            SqlFault::Damage => "a query can't read this database, but --table may",
             SqlFault::NoRows => "there is no row 0, so there is no table",
             SqlFault::Columns(Error::SqlInputError(CompileError::Exists)) => {
                 "two columns have one name, whose case doesn't count"

@@ -1,6 +1,6 @@
 //! A database that rows fill.
 
-ghost use Rattle.std.specs.Prelude.{◌≡◌, ◌≢◌, ◌⊎◌, [], ◌∷◌, codes, map, None, IfErr, IfOk, OnOk};
+ghost use Rattle.std.specs.Prelude.{◌≡◌, ◌≢◌, ◌⊎◌, [], ◌∷◌, codes, map, IfErr, IfOk, OnOk};
 ghost use Rattle.csv.specs.Records.{fields_of};
 ghost use Rattle.sqlite.specs.Values.{bound, bound_value};
 ghost use Rattle.sqlite_value.specs.Value.{owned};
@@ -102,7 +102,6 @@ fn fault_of(error: Error) -> SqlFault
 fn created(alloc: Global, text: &str) -> Result<Connection<MemStore>, SqlFault>
     ensures made { IfOk result (spec.IsFilled ((text.now, []) ∷ [])) }
     ensures others { IfErr result (λ fault. fault ≢ SqlFault.NoRows) }
-    ensures limit { IfOk result (λ made. made.step_limit ≡ None) }
 {
     let mut connection = Connection::open_in_memory(alloc)?;
     match run(&mut connection, text, &[]) {
@@ -147,7 +146,6 @@ pub(crate) fn filled(
     records: &[StringRecord],
 ) -> Result<Connection<MemStore>, SqlFault>
     ensures filled { IfOk result (spec.IsFilled (spec.filling table.now columns.now count (map fields_of records.now))) }
-    ensures limit { IfOk result (λ made. made.step_limit ≡ None) }
     ensures others { IfErr result (λ fault. fault ≢ SqlFault.NoRows) }
     ensures uncounted { IfOk result (λ made. made.changes ≡ 0) }
 {

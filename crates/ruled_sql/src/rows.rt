@@ -68,14 +68,20 @@ fn rows_in(alloc: Global, names: &[Bytes], answer: &[Row]) -> Result<Vec<StringR
 /// The rows that a query answers of the database that the bytes of its file hold, with the names of the
 /// columns as row 0.
 ///
+/// Each row that the query reads or returns is a step; one that takes more of them than given is refused.
 /// A value is shown as by [`push_value`]. The query is one statement without parameters that changes nothing.
 /// Rows in a log beside the file aren't seen: [`ruled_database::keeps_log`] says whether there may be a log.
-pub fn query_rows(alloc: Global, bytes: &[u8], query: &str) -> Result<Vec<StringRecord>, SqlFault>
-    ensures rows { IfOk result (λ rows. AreAnswered bytes.now query.now (map fields_of rows.items)) }
+pub fn query_rows(
+    alloc: Global,
+    bytes: &[u8],
+    query: &str,
+    steps: u64,
+) -> Result<Vec<StringRecord>, SqlFault>
+    ensures rows { IfOk result (λ rows. AreAnswered bytes.now query.now steps (map fields_of rows.items)) }
     ensures none { result ≡ Err Database → HoldsNone bytes.now }
 {
     let mut connection = open(alloc, bytes)?;
-    let answer = answer_of(&mut connection, query)?;
+    let answer = answer_of(&mut connection, query, steps)?;
     let rows = rows_in(alloc, answer.statement.column_names(), &answer.rows)?;
     Ok(rows)
 }
@@ -101,8 +107,9 @@ pub fn query_table(
     name: &str,
     rows: &[StringRecord],
     query: &str,
+    steps: u64,
 ) -> Result<Vec<StringRecord>, SqlFault>
-    ensures rows { IfOk result (λ answer. AreQueried name.now (map fields_of rows.now) query.now (map fields_of answer.items)) }
+    ensures rows { IfOk result (λ answer. AreQueried name.now (map fields_of rows.now) query.now steps (map fields_of answer.items)) }
     ensures none { result ≡ Err NoRows → rows.now ≡ [] }
 {
     let [names, records @ ..] = rows else {
@@ -111,7 +118,7 @@ pub fn query_table(
     let columns = columns_text(alloc, names, records)?;
     let called = name_for(alloc, name, columns.as_str(), query)?;
     let mut connection = filled(alloc, called, columns.as_str(), names.len(), records)?;
-    let found = match answer_of(&mut connection, query) {
+    let found = match answer_of(&mut connection, query, steps) {
         Ok(found) => found,
         Err(fault) => return Err(fault_of_table(fault)),
     };

@@ -1,4 +1,4 @@
-use Rattle.std.proofs.Common.{◌∙◌, []}
+use Rattle.std.proofs.Common.{[]}
 use Rattle.ruled_sql.proofs.Filling.{run-alone}
 use Rattle.ruled_sql.proofs.filled.created.Goals as goal
 
@@ -6,6 +6,3 @@ pub returns-in-Ok-clause-made : goal.returns-in-Ok-clause-made
 returns-in-Ok-clause-made c =
     let blank = c.in_ok-connection in
     (blank.connection, record { empty = blank.ensures.empty; new = blank.ensures.fresh }, run-alone (c.args.text.now, []) blank.connection c.run.new.connection c.in-Ok.ensures.runs)
-
-pub returns-in-Ok-clause-limit : goal.returns-in-Ok-clause-limit
-returns-in-Ok-clause-limit c = c.run.ensures.limit ∙ c.in_ok-connection.ensures.fresh.unlimited

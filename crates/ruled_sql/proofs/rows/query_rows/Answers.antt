@@ -21,6 +21,6 @@ returns-clause-rows c =
       held = held c.args.bytes.now state opened.0 opened.1 c.in_ok-connection.ensures.found;
       names = c.in_ok-answer.answer.statement.columns;
       answer = c.in_ok-answer.answer.rows.items;
-      is = c.in_ok-answer.ensures (stays_clean (λ _. refl) c.answer_of.new.connection) c.in_ok-connection.ensures.fresh.changes c.in_ok-connection.ensures.fresh.unlimited;
+      is = c.in_ok-answer.ensures (stays_clean (λ _. refl) c.answer_of.new.connection) c.in_ok-connection.ensures.fresh.changes;
       shown = rw (names, rows) at c.in_ok-rows.ensures;
     }

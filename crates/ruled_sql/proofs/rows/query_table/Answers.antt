@@ -1,5 +1,4 @@
 use Rattle.std.proofs.Common.{◌≡◌, ◌+◌, ◌-◌, ◌∙◌, List, length, subst, rules, arith}
-use Rattle.csv.specs.Records.{fields_of}
 use Rattle.sqlite.proofs.Callers.{memory_is_clean}
 use Rattle.ruled_sql.specs.Filled.{IsFilled, Step}
 use Rattle.ruled_sql.specs.declared.fault.SqlFault.TheVariants.{NoRows}
@@ -28,6 +27,6 @@ returns-clause-rows c =
       filled = subst (λ (steps : List Step). IsFilled steps connection) same c.in_ok-connection.ensures.filled;
       names = c.in-Ok.found.statement.columns;
       answer = c.in-Ok.found.rows.items;
-      is = c.in-Ok.ensures (memory_is_clean c.answer_of.new.connection) c.in_ok-connection.ensures.uncounted c.in_ok-connection.ensures.limit;
+      is = c.in-Ok.ensures (memory_is_clean c.answer_of.new.connection) c.in_ok-connection.ensures.uncounted;
       shown = rw (names, rows) at c.in_ok-rows.ensures;
     }
