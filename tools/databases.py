@@ -252,10 +252,10 @@ class Database:
     # -- rows
 
     def length(self, count):
-        """The length of a value, which may be about that at which a record needs overflow pages."""
+        """The length of a value, which may be about that at which a record needs overflow pages; a table of many rows has none that makes all lines long."""
         if self.rng.random() < min(0.03, (20 if self.page_size < 4096 else 1) / (count + 1)):
-            usual = self.rng.choice([self.page_size // 8, self.page_size // 4, self.page_size - 35, min(3 * self.page_size, 70000)])
-            return max(0, usual + self.rng.randint(-12, 12))
+            usual = self.rng.choice([self.page_size // 8, self.page_size // 4, self.page_size - 35, 3 * self.page_size])
+            return max(0, min(usual + self.rng.randint(-12, 12), 70_000, 20_000_000 // (self.most_rows + 1)))
         return self.rng.choice([0, 1, 2, 3, 5, 8, 13, 30])
 
     def text(self, count):
