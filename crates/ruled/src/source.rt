@@ -6,7 +6,7 @@ use ruled_table::Options;
 use std::alloc::{AllocError, Global};
 use std::mem;
 
-/// How many steps a query may take where no argument says it: some 20 seconds.
+/// How many steps a query may take if no argument sets it.
 const STEPS: u32 = 100_000_000;
 
 // The sign that a word is: one byte of ASCII that is no quote and ends no line.
