@@ -185,7 +185,7 @@ const CHOICES: [Choice; 30] = [
         short: Some('c'),
         value: "NAMES",
         takes: Takes::Text,
-        help: "Print only these columns, in this order, by their names in row 0 or their numbers, as 1-3; a ! in front leaves them out",
+        help: "Print only these columns, in this order, by their names in row 0, their numbers, as 1-3, or a part of their names, as /pop/; a ! in front leaves them out",
         ..FLAG
     },
     Choice {

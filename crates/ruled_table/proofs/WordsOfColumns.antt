@@ -1,30 +1,89 @@
 -- Words that ask for columns, and those that leave them out.
-use Rattle.std.proofs.Common.{◌≡◌, ◌≢◌, ◌∙◌, ◌∷◌, ◌++◌, ◌+◌, ◌-◌, ◌<◌, ◌≤◌, ◌^◌, ◌==◌, ◌&&◌, ◌||◌, not, cond, nat_lt, ℕ, zero, suc, List, [], Bool, true, false, Option, Some, None, Result, Ok, Err, Bor, String, string_bytes, length, map, option_map, drop, get_or, take, append_assoc, refl, sym, ap, subst, arith, rules}
-use Rattle.std.specs.Prelude.{is_none, is_ok}
-use Rattle.std.specs.List.{filter, list_all, list_any, position_or_len, range_with_len}
-use Rattle.std.specs.Option.{MatchOption}
+use Rattle.std.proofs.Common.{◌≡◌, ◌≢◌, ◌∙◌, ◌∷◌, ◌++◌, ◌+◌, ◌<◌, ◌≤◌, ◌^◌, ◌==◌, ◌&&◌, ◌||◌, not, cond, nat_lt, ℕ, suc, List, [], Bool, true, false, Option, Some, None, Result, Ok, Err, Bor, String, string_bytes, length, map, option_map, drop, get_or, nat_eq, take, zero-add, refl, sym, ap, ap₂, arith, rules}
+use Rattle.std.specs.Prelude.{Any, IsErrAnd, is_none, is_ok, reverse, unwrap_or, ◌↔◌}
+use Rattle.std.specs.List.{list_all, list_any, filter, flat_map, position_from, position_or_len, range_with_len, starts_with}
+use Rattle.std.specs.Option.{MatchOption, option_or}
 use Rattle.std.specs.Str.Parse.{digits_value, ParsesUnsigned}
-use Rattle.std.proofs.lemmas.Bool.{and_from, and_left, and_parts, and_right, cond-false, cond-true, eq-eqb, eqb-false, false_from_ne_true, ltb-true, ne_eqb, not-true, true≢false}
-use Rattle.std.proofs.lemmas.List.{map-append}
-use Rattle.std.proofs.lemmas.List.Elements.{filter-append}
-use Rattle.std.proofs.lemmas.List.FromFn.{map-range_with_len_more}
+use Rattle.std.specs.Str.{bytes_eq}
+use Rattle.std.specs.Str.Iter.{HasSubslice}
+use Rattle.std.proofs.lemmas.Bool.{and_parts, and_right, cond-false, cond-true, eq-eqb, eqb-false, false_from_ne_true, ltb-true, ne_eqb, not-true, true≢false}
+use Rattle.std.proofs.lemmas.List.{drop_more, flat_map_more, take_more, length-append, reverse-append, reverse-reverse, take-append-drop}
+use Rattle.std.proofs.lemmas.List.FromFn.{get_or-range_with_len, length-range_with_len, map-range_with_len_more}
+use Rattle.std.proofs.lemmas.List.Folds.{Any-from_list_any, list_any_at, list_any_more}
+use Rattle.std.proofs.lemmas.Slice.Eq.{bytes_eq-Decides}
+use Rattle.std.proofs.Math.Seq.{drop-append_seam, take-append_seam}
+use Rattle.std.proofs.Math.ListN.{drop_of_length-le}
 use Rattle.std.proofs.lemmas.Str.Parse.{IsNumeralModel, numerals_by_value, parse_digits}
+use Rattle.std.proofs.lemmas.Option.{none-some}
 use Rattle.pg_layout.specs.Text.{Text}
-use Rattle.ruled_table.specs.Columns.{column_of, excluded, number_in}
+use Rattle.ruled_table.specs.Columns.{asked, asked_by, asked_or_all, before, behind, columns_in, columns_of, excluded, has_part, is_left_out, left_out_by, meant, missing_word, number_in}
+use Rattle.ruled_table.specs.Faults.{Tells, is_memory}
 use Rattle.ruled_table.specs.Numbers.{are_digits, is_digit}
+use Rattle.ruled_table.specs.declared.fault.ViewFault.{ViewFault}
+use Rattle.ruled_table.specs.declared.fault.ViewFault.TheVariants.{Column}
 
--- ---- a word without a `!` in front
+-- ---- signs at the ends of texts
 
-pub excluded_is : (header : List Text) (word : Text) (r : Option (Bor (List ℕ))) → is_none (column_of header word) ≡ true
-    → MatchOption r ((rest : List ℕ) → word ≢ 33 ∷ rest) (λ x. word ≡ 33 ∷ x.now) → option_map (λ it. it.now) r ≡ excluded header word
-excluded_is header [] None none h = refl
-excluded_is header [] (Some x) none h = absurd (omega (arith, ap length h))
-excluded_is header (byte ∷ word) None none h =
-    sym (cond-false ((byte == 33) && is_none (column_of header (byte ∷ word))) (Some word) None (and_left (byte == 33) _ (ne_eqb byte 33 (λ e. h word (ap (λ (b : ℕ). b ∷ word) e)))))
-excluded_is header (byte ∷ word) (Some x) none h =
-    let first : byte ≡ 33 = ap (λ (bytes : List ℕ). get_or bytes 0 0) h in
-    let behind : word ≡ x.now = ap (drop 1) h in
-    ap (λ (bytes : List ℕ). Some bytes) (sym behind) ∙ sym (cond-true ((byte == 33) && is_none (column_of header (byte ∷ word))) (Some word) None (and_from (byte == 33) _ (eq-eqb byte 33 first) none))
+pub behind_is : (byte : ℕ) (text : Text) (r : Option (Bor (List ℕ))) → MatchOption r ((rest : List ℕ) → text ≢ byte ∷ rest) (λ x. text ≡ byte ∷ x.now) → option_map (λ it. it.now) r ≡ behind byte text
+behind_is byte [] None h = refl
+behind_is byte [] (Some x) h = absurd (omega (arith, ap length h))
+behind_is byte (first ∷ text) None h = sym (cond-false (first == byte) (Some text) None (ne_eqb first byte (λ e. h text (ap (λ (b : ℕ). b ∷ text) e))))
+behind_is byte (first ∷ text) (Some x) h =
+    let same : first ≡ byte = ap (λ (bytes : List ℕ). get_or bytes 0 0) h in
+    let rest : text ≡ x.now = ap (drop 1) h in
+    ap (λ (bytes : List ℕ). Some bytes) (sym rest) ∙ sym (cond-true (first == byte) (Some text) None (eq-eqb first byte same))
+
+before_some : (byte : ℕ) (text front : List ℕ) → text ≡ front ++ byte ∷ [] → Some front ≡ before byte text
+before_some byte text front e =
+    let back : reverse text ≡ byte ∷ reverse front = ap reverse e ∙ reverse-append front (byte ∷ []) in
+    sym (ap (λ (bytes : List ℕ). option_map reverse (behind byte bytes)) back
+    ∙ ap (option_map reverse) (cond-true (byte == byte) (Some (reverse front)) None (eq-eqb byte byte refl))
+    ∙ ap (λ (bytes : List ℕ). Some bytes) (reverse-reverse front))
+
+before_none : (byte : ℕ) (text back : List ℕ) → ((front : List ℕ) → text ≢ front ++ byte ∷ []) → reverse text ≡ back → None ≡ option_map reverse (behind byte back)
+before_none byte text [] none e = refl
+before_none byte text (last ∷ back) none e =
+    sym (ap (option_map reverse) (cond-false (last == byte) (Some back) None (ne_eqb last byte (λ same.
+    none (reverse back) (sym (reverse-reverse text) ∙ ap reverse e ∙ reverse-append (last ∷ []) back ∙ ap (λ (b : ℕ). reverse back ++ b ∷ []) same)))))
+
+pub before_is : (byte : ℕ) (text : Text) (r : Option (Bor (List ℕ))) → MatchOption r ((front : List ℕ) → text ≢ front ++ byte ∷ []) (λ x. text ≡ x.now ++ byte ∷ []) → option_map (λ it. it.now) r ≡ before byte text
+before_is byte text None h = before_none byte text (reverse text) h refl
+before_is byte text (Some x) h = before_some byte text x.now h
+
+-- ---- a text that has another one as a part
+
+same_bytes : (bytes : List ℕ) → bytes_eq bytes bytes ≡ true
+same_bytes bytes = (bytes_eq-Decides bytes bytes).1 refl
+
+begins : (part rest : List ℕ) → starts_with nat_eq (part ++ rest) part ≡ true
+begins part rest = ap (bytes_eq part) (take-append_seam part rest) ∙ same_bytes part
+
+part_found : (part text : List ℕ) → HasSubslice text part → has_part part text ≡ true
+part_found part text h =
+    let at : ℕ = length h.0 in
+    let within : at < length text + 1 = omega (arith, ap length h.2, length-append h.0 (part ++ h.1)) in
+    let test : ℕ → Bool = λ place. starts_with nat_eq (drop place text) part in
+    let same : get_or (range_with_len 0 (length text + 1)) at 0 ≡ at = get_or-range_with_len 0 (length text + 1) at 0 within ∙ zero-add at in
+    let rest : drop at text ≡ part ++ h.1 = ap (drop at) h.2 ∙ drop-append_seam h.0 (part ++ h.1) in
+    list_any_at test (range_with_len 0 (length text + 1)) at 0 (omega (arith, length-range_with_len 0 (length text + 1)))
+    (ap test same ∙ ap (λ (bytes : List ℕ). starts_with nat_eq bytes part) rest ∙ begins part h.1)
+
+part_there : (part text : List ℕ) → has_part part text ≡ true → HasSubslice text part
+part_there part text h =
+    let test : ℕ → Bool = λ place. starts_with nat_eq (drop place text) part in
+    let found : Any (λ place. test place ≡ true) (range_with_len 0 (length text + 1)) = Any-from_list_any test (range_with_len 0 (length text + 1)) h in
+    let rest : List ℕ = drop found.1 text in
+    let same : part ≡ take (length part) rest = (bytes_eq-Decides part (take (length part) rest)).0 found.4 in (
+      take found.1 text,
+      drop (length part) rest,
+      sym (ap (λ (bytes : List ℕ). take found.1 text ++ (bytes ++ drop (length part) rest)) same
+          ∙ ap (λ (bytes : List ℕ). take found.1 text ++ bytes) (take-append-drop (length part) rest)
+          ∙ take-append-drop found.1 text),
+    )
+
+pub part_is : (r : Bool) (part text : List ℕ) → (r ≡ true) ↔ HasSubslice text part → r ≡ has_part part text
+part_is true part text h = sym (part_found part text (h.0 refl))
+part_is false part text h = sym (false_from_ne_true (has_part part text) (λ e. true≢false (sym (h.1 (part_there part text e)))))
 
 -- ---- numbers
 
@@ -51,26 +110,132 @@ pub none-any : {X : Type 0} (p : X → Bool) (xs : List X) → position_or_len p
 none-any p [] e = refl
 none-any p (x ∷ xs) e = none-step (p x) (position_or_len p xs) (length xs) (list_any p xs) e (none-any p xs)
 
+-- ---- the first element that passes a test
+
+pub first_next : {X : Type 0} (p : X → Bool) (xs : List X) (i j : ℕ) (x d : X) (found made : Option ℕ) → i < length xs → j ≡ i + 1 → x ≡ get_or xs i d → found ≡ position_from p j (drop j xs) → made ≡ cond (p x) (Some i) found
+    → made ≡ position_from p i (drop i xs)
+first_next p xs i j x d found made within next is were now =
+    now
+    ∙ ap (cond (p x) (Some i)) (were ∙ ap (λ (n : ℕ). position_from p n (drop n xs)) next)
+    ∙ ap (λ y. cond (p y) (Some i) (position_from p (i + 1) (drop (i + 1) xs))) is
+    ∙ sym (ap (position_from p i) (drop_more xs i d within))
+
+pub passes_here : {X : Type 0} (p : X → Bool) (xs : List X) (i : ℕ) (d : X) → i < length xs → p (get_or xs i d) ≡ true → position_from p i (drop i xs) ≡ Some i
+passes_here p xs i d within passes = ap (position_from p i) (drop_more xs i d within) ∙ cond-true (p (get_or xs i d)) (Some i) (position_from p (i + 1) (drop (i + 1) xs)) passes
+
+pub passes_later : {X : Type 0} (p : X → Bool) (xs : List X) (i : ℕ) (d : X) → i < length xs → p (get_or xs i d) ≡ false → position_from p i (drop i xs) ≡ position_from p (i + 1) (drop (i + 1) xs)
+passes_later p xs i d within fails = ap (position_from p i) (drop_more xs i d within) ∙ cond-false (p (get_or xs i d)) (Some i) (position_from p (i + 1) (drop (i + 1) xs)) fails
+
+pub passes_nowhere : {X : Type 0} (p : X → Bool) (xs : List X) (i : ℕ) → length xs ≤ i → position_from p i (drop i xs) ≡ None
+passes_nowhere p xs i end = ap (position_from p i) (drop_of_length-le xs end)
+
 -- ---- one column more
 
-same-numbers : (ns : List ℕ) → map (λ (n : ℕ). n) ns ≡ ns
-same-numbers [] = refl
-same-numbers (n ∷ ns) = ap (λ (ms : List ℕ). n ∷ ms) (same-numbers ns)
+same_numbers : (ns : List ℕ) → map (λ (n : ℕ). n) ns ≡ ns
+same_numbers [] = refl
+same_numbers (n ∷ ns) = ap (λ (ms : List ℕ). n ∷ ms) (same_numbers ns)
 
-range-more : (a n k : ℕ) → a + n ≡ k → range_with_len a (n + 1) ≡ range_with_len a n ++ k ∷ []
-range-more a n k at =
-    sym (same-numbers (range_with_len a (n + 1)))
+pub range_more : (a n k : ℕ) → a + n ≡ k → range_with_len a (n + 1) ≡ range_with_len a n ++ k ∷ []
+range_more a n k at =
+    sym (same_numbers (range_with_len a (n + 1)))
     ∙ map-range_with_len_more (λ (m : ℕ). m) a n k at
-    ∙ ap (λ (ms : List ℕ). ms ++ k ∷ []) (same-numbers (range_with_len a n))
+    ∙ ap (λ (ms : List ℕ). ms ++ k ∷ []) (same_numbers (range_with_len a n))
 
--- the columns that pass a test
-pub filtered-more : (p : ℕ → Bool) (a n : ℕ) (old made more : List (Option ℕ)) → made ≡ old ++ map Some (filter p (range_with_len a n)) → more ≡ made ++ map Some (filter p ((a + n) ∷ []))
-    → more ≡ old ++ map Some (filter p (range_with_len a (n + 1)))
-filtered-more p a n old made more are pushed =
-    let passed : List ℕ = filter p (range_with_len a n) in
-    let next : List ℕ = filter p ((a + n) ∷ []) in
-    pushed
-    ∙ ap (λ (ms : List (Option ℕ)). ms ++ map Some next) are
-    ∙ append_assoc old (map Some passed) (map Some next)
-    ∙ ap (λ (ms : List (Option ℕ)). old ++ ms) (sym (map-append Some passed next))
-    ∙ ap (λ (ns : List ℕ). old ++ map Some ns) (sym (filter-append p (range_with_len a n) ((a + n) ∷ [])) ∙ ap (filter p) (sym (range-more a n (a + n) refl)))
+-- ---- columns that stay
+
+pub same_filter : (p q : ℕ → Bool) → ((n : ℕ) → p n ≡ q n) → (xs : List ℕ) → filter p xs ≡ filter q xs
+same_filter p q same [] = refl
+same_filter p q same (x ∷ xs) = ap₂ (λ b (rest : List ℕ). cond b (x ∷ rest) rest) (same x) (same_filter p q same xs)
+
+pub all_stay : (xs : List ℕ) → xs ≡ filter (λ x. true) xs
+all_stay [] = refl
+all_stay (x ∷ xs) = ap (λ (rest : List ℕ). x ∷ rest) (all_stay xs)
+
+-- ---- columns that are left out
+
+either_way : (old passed here : Bool) → cond here true (old || passed) ≡ (old || (passed || here))
+either_way true true true = refl
+either_way true true false = refl
+either_way true false true = refl
+either_way true false false = refl
+either_way false true true = refl
+either_way false true false = refl
+either_way false false true = refl
+either_way false false false = refl
+
+-- one more is left out
+pub one_more_left_out : (columns : List ℕ) (i x d column : ℕ) (old were now : Bool) → i < length columns → x ≡ get_or columns i d → were ≡ (old || list_any (λ other. other == column) (take i columns)) → now ≡ cond (x == column) true were
+    → now ≡ (old || list_any (λ other. other == column) (take (i + 1) columns))
+one_more_left_out columns i x d column old were now within is before_it update =
+    update
+    ∙ ap₂ (λ here b. cond here true b) (ap (λ (other : ℕ). other == column) is) before_it
+    ∙ either_way old (list_any (λ other. other == column) (take i columns)) (get_or columns i d == column)
+    ∙ ap (λ b. old || b) (sym (list_any_more (λ (other : ℕ). other == column) columns i d within))
+
+-- a word that leaves nothing out asks for its columns
+pub asked_plainly : (header : List Text) (word : Text) → None ≡ excluded header word → columns_of header word ≡ asked_by header word
+asked_plainly header word none = ap (λ (o : Option Text). cond (is_none o) (columns_of header (unwrap_or o word)) []) none
+
+pub meant_plainly : (header : List Text) (word : Text) → None ≡ excluded header word → columns_of header word ≡ meant header word
+meant_plainly header word none = ap (λ (o : Option Text). columns_of header (unwrap_or o word)) none
+
+-- ---- all words
+
+twice : (b : Bool) → not (not b) ≡ b
+twice true = refl
+twice false = refl
+
+module _ {A : Type 0} (words : List (String A)) (header : List Text) (i : ℕ) (word : String A) (text : Text) (within : i < length words) (is : word ≡ get_or words i word) (read : text ≡ string_bytes word) where
+  pub asked_next : (old new : List ℕ) → old ≡ asked (take i words) header → new ≡ old ++ asked_by header text → new ≡ asked (take (i + 1) words) header
+  asked_next old new were pushed =
+      let by : String A → List ℕ = λ w. asked_by header (string_bytes w) in
+      pushed
+      ∙ ap₂ (λ (columns : List ℕ) (t : Text). columns ++ asked_by header t) were read
+      ∙ flat_map_more by [] (take i words) word
+      ∙ ap (λ (w : String A). flat_map by (take i words ++ w ∷ [])) is
+      ∙ sym (ap (flat_map by) (take_more words i word within))
+
+  pub left_out_next : (column : ℕ) (old new : Bool) → old ≡ is_left_out (take i words) header column → new ≡ (old || list_any (λ other. other == column) (left_out_by header text)) → new ≡ is_left_out (take (i + 1) words) header column
+  left_out_next column old new were now =
+      let test : Text → Bool = λ t. list_any (λ other. other == column) (left_out_by header t) in
+      now
+      ∙ ap₂ (λ b (t : Text). b || test t) were read
+      ∙ ap (λ (w : String A). is_left_out (take i words) header column || test (string_bytes w)) is
+      ∙ sym (list_any_more (λ (w : String A). test (string_bytes w)) words i word within)
+
+  lacks : (some : Bool) → some ≡ not (length (meant header text) == 0) → (length (meant header (string_bytes (get_or words i word))) == 0) ≡ not some
+  lacks some known = sym (ap not (known ∙ ap (λ (t : Text). not (length (meant header t) == 0)) (read ∙ ap string_bytes is)) ∙ twice (length (meant header (string_bytes (get_or words i word))) == 0))
+
+  pub missing_next : (some : Bool) → some ≡ not (length (meant header text) == 0) → some ≡ true → missing_word words header ≡ position_from (λ w. length (meant header (string_bytes w)) == 0) i (drop i words)
+      → missing_word words header ≡ position_from (λ w. length (meant header (string_bytes w)) == 0) (i + 1) (drop (i + 1) words)
+  missing_next some known has were = were ∙ passes_later (λ w. length (meant header (string_bytes w)) == 0) words i word within (lacks some known ∙ ap not has)
+
+  pub missing_here : (some : Bool) → some ≡ not (length (meant header text) == 0) → some ≡ false → missing_word words header ≡ position_from (λ w. length (meant header (string_bytes w)) == 0) i (drop i words) → missing_word words header ≡ Some i
+  missing_here some known has were = were ∙ passes_here (λ w. length (meant header (string_bytes w)) == 0) words i word within (lacks some known ∙ ap not has)
+
+-- where there are no words, all columns are shown
+pub all_shown : {A : Type 0} (words : List (String A)) (header : List Text) (n : ℕ) (made : List (Option ℕ)) → made ≡ map Some (range_with_len 0 n) → n ≡ length header → length words ≡ 0 → made ≡ map Some (columns_in words header)
+all_shown [] header n made is count none = is ∙ ap (λ (m : ℕ). map Some (range_with_len 0 m)) count ∙ ap (map Some) (all_stay (range_with_len 0 (length header)))
+all_shown (word ∷ words) header n made is count none = absurd (omega (arith, none))
+
+pub none_missing : {A : Type 0} (words : List (String A)) (header : List Text) → length words ≡ 0 → missing_word words header ≡ None
+none_missing [] header none = refl
+none_missing (word ∷ words) header none = absurd (omega (arith, none))
+
+tells_first : (missing last : Option ℕ) (fault : ViewFault) → (is_memory fault ≡ false → option_map Column missing ≡ Some fault) → is_memory fault ≡ false → option_map Column (option_or missing last) ≡ Some fault
+tells_first None last fault tells other = absurd (none-some fault (tells other))
+tells_first (Some word) last fault tells other = tells other
+
+-- a fault that is handed on tells of the first word that means no column
+pub told_first : {X : Type 0} (missing last : Option ℕ) (found : ViewFault) (result : Result X ViewFault) → (is_memory found ≡ false → option_map Column missing ≡ Some found) → IsErrAnd result (λ fault. fault ≡ found)
+    → Tells (option_map Column (option_or missing last)) result
+told_first missing last found (Ok x) tells told = absurd told
+told_first missing last found (Err fault) tells told = λ counts. tells_first missing last found tells (sym (ap is_memory told) ∙ counts) ∙ ap (λ (f : ViewFault). Some f) (sym told)
+
+pub shown_columns : {A : Type 0} (words : List (String A)) (header : List Text) (n : ℕ) (asked_for : List ℕ) (left_out : ℕ → Bool) (made : List (Option ℕ)) → made ≡ map Some (filter (λ column. not (left_out column)) (asked_or_all n asked_for)) → n ≡ length header
+    → asked_for ≡ asked words header → ((column : ℕ) → left_out column ≡ is_left_out words header column) → made ≡ map Some (columns_in words header)
+shown_columns words header n asked_for left_out made is count are out =
+    is
+    ∙ ap (map Some)
+    (same_filter (λ column. not (left_out column)) (λ column. not (is_left_out words header column)) (λ column. ap not (out column)) (asked_or_all n asked_for)
+    ∙ ap₂ (λ (m : ℕ) (columns : List ℕ). filter (λ column. not (is_left_out words header column)) (asked_or_all m columns)) count are)

@@ -1,13 +1,14 @@
 -- The columns that are shown.
-use Rattle.std.specs.Prelude.{ℕ, ◌+◌, ◌-◌, ◌^◌, ◌==◌, ◌&&◌, not, nat_le, nat_lt, Bool, false, List, [], ◌∷◌, drop, length, find, map, position, slice_index_or, nat_eq}
-use Rattle.std.specs.Prelude.{String, string_bytes, Option, Some, None, is_none, is_some, option_map, unwrap_or, if◌then◌else◌}
-use Rattle.std.specs.List.{after_first, before_first, filter, flat_map, list_all, list_any, range_with_len}
-use Rattle.std.specs.Cmp.Lexicographic.{pointwise}
-use Rattle.std.specs.Option.{option_map_or, option_or}
+use Rattle.std.specs.Prelude.{◌≡◌, ℕ, ◌+◌, ◌-◌, ◌^◌, ◌==◌, ◌&&◌, not, nat_le, nat_lt, Bool, List, [], ◌∷◌, drop, length, map, position, reverse, slice_index_or, nat_eq}
+use Rattle.std.specs.Prelude.{String, string_bytes, Option, Some, None, is_none, option_map, unwrap_or, if◌then◌else◌}
+use Rattle.std.specs.List.{after_first, before_first, ends_with, filter, flat_map, list_any, range_with_len, starts_with}
+use Rattle.std.specs.Option.{option_and_then, option_map_or, option_or}
 use Rattle.std.specs.Str.Parse.{digits_value}
+use Rattle.std.specs.HashMap.{HashMap, get_by}
+use Rattle.std.specs.Borrow.{Bor}
+use Rattle.std.specs.Str.{bytes_eq}
 use Rattle.pg_layout.specs.Text.{Text}
 use Rattle.ruled_table.specs.Numbers.{are_digits}
-use Rattle.ruled_table.specs.declared.columns.Run.{Run}
 use Rattle.ruled_table.specs.declared.fault.ViewFault.{ViewFault}
 use Rattle.ruled_table.specs.declared.fault.ViewFault.TheVariants.{Column}
 
@@ -21,85 +22,106 @@ told_of (word ∷ next ∷ words) column = slice_index_or (word ∷ next ∷ wor
 
 -- the first column of this name
 abbrev pub column_of : List Text → Text → Option ℕ
-column_of header name = find (λ column. pointwise nat_eq (slice_index_or header column []) name) (range_with_len 0 (length header))
+column_of header name = position (λ field. bytes_eq field name) header
+
+-- a map has the first column of each name
+abbrev pub HasFirst : {S : Type 0} → List Text → HashMap (Bor Text) ℕ S → Type 0
+HasFirst header first = (name : Text) → get_by (λ known. bytes_eq name known.now) first ≡ column_of header name
 
 -- the number that digits write, or else 0, which is no column's: the first column is 1
 abbrev pub number_in : Text → ℕ
 number_in word = if are_digits word && nat_lt (digits_value 10 word) (2 ^ 64) then digits_value 10 word else 0
 
--- of so many columns those from one number to another, if there are these, or else none
-abbrev pub numbered : ℕ → ℕ → ℕ → Run
+-- of so many columns those from one number to another, if there are these
+abbrev pub numbered : ℕ → ℕ → ℕ → List ℕ
 numbered columns first last =
-    if nat_lt 0 first && (nat_le first last && nat_le last columns) then record { first = first - 1; end = last }
-    else record { first = 0; end = 0 }
+    if nat_lt 0 first && (nat_le first last && nat_le last columns) then range_with_len (first - 1) (last - (first - 1)) else []
 
 abbrev pub is_dash : ℕ → Bool
 is_dash byte = byte == 45
 
 -- those of a number, or of two with a dash between them
-abbrev pub numbered_run : ℕ → Text → Run
-numbered_run columns word =
+abbrev pub numbered_columns : ℕ → Text → List ℕ
+numbered_columns columns word =
     if list_any is_dash word then numbered columns (number_in (before_first is_dash word)) (number_in (after_first is_dash word))
     else numbered columns (number_in word) (number_in word)
 
--- a word asks for the first column of this name, or else for those of its numbers
-abbrev pub run_by : Option ℕ → ℕ → Text → Run
-run_by (Some place) columns word = record { first = place; end = place + 1 }
-run_by None columns word = numbered_run columns word
+-- ---- patterns
 
-abbrev pub run_of : List Text → Text → Run
-run_of header word = run_by (column_of header word) (length header) word
+-- the text behind this byte, if a text begins with it
+abbrev pub behind : ℕ → Text → Option Text
+behind byte [] = None
+behind byte (first ∷ text) = if first == byte then Some text else None
 
-abbrev pub is_empty : Run → Bool
-is_empty run = nat_le run.end run.first
+-- the text before this byte, if a text ends with it
+abbrev pub before : ℕ → Text → Option Text
+before byte text = option_map reverse (behind byte (reverse text))
 
-abbrev pub has_place : Run → ℕ → Bool
-has_place run place = nat_le run.first place && nat_lt place run.end
+-- the pattern between two slashes
+abbrev pub pattern_of : Text → Option Text
+pattern_of word = option_and_then (before 47) (behind 47 word)
 
--- ---- words that leave columns out
+-- whether a text has another one as a part
+abbrev pub has_part : Text → Text → Bool
+has_part part text = list_any (λ place. starts_with nat_eq (drop place text) part) (range_with_len 0 (length text + 1))
+
+-- whether a name fits a pattern: it has the text, behind a `^` at its front, and before a `$` at its end
+abbrev pub fits : Text → Text → Bool
+fits pattern name =
+    option_map_or (λ text. option_map_or (bytes_eq name) (before 36 text) (starts_with nat_eq name text)) (behind 94 pattern)
+    (option_map_or (ends_with nat_eq name) (before 36 pattern) (has_part pattern name))
+
+abbrev pub fitting : List Text → Text → List ℕ
+fitting header pattern = filter (λ column. fits pattern (slice_index_or header column [])) (range_with_len 0 (length header))
+
+-- ---- what a word means
+
+-- the columns of a word that is no name: those that fit its pattern, or those of its numbers
+abbrev pub unnamed_columns : List Text → Text → List ℕ
+unnamed_columns header word = option_map_or (fitting header) (pattern_of word) (numbered_columns (length header) word)
+
+-- the first column of this name, or else those that the word describes
+abbrev pub columns_of : List Text → Text → List ℕ
+columns_of header word = option_map_or (λ column. column ∷ []) (column_of header word) (unnamed_columns header word)
 
 -- the word after a `!`, unless a column has the name with the `!`
 abbrev pub excluded : List Text → Text → Option Text
-excluded header [] = None
-excluded header (byte ∷ word) = if (byte == 33) && is_none (column_of header (byte ∷ word)) then Some word else None
+excluded header word = if is_none (column_of header word) then behind 33 word else None
 
--- whether a word leaves out the column at this place
-abbrev pub leaves_out : List Text → Text → ℕ → Bool
-leaves_out header word place = option_map_or (λ word. has_place (run_of header word) place) (excluded header word) false
+-- the columns that a word asks for or leaves out
+abbrev pub meant : List Text → Text → List ℕ
+meant header word = columns_of header (unwrap_or (excluded header word) word)
 
--- the columns that a word means, to ask for them or to leave them out
-abbrev pub meant_run : List Text → Text → Run
-meant_run header word = run_of header (unwrap_or (excluded header word) word)
+-- those that it asks for
+abbrev pub asked_by : List Text → Text → List ℕ
+asked_by header word = if is_none (excluded header word) then meant header word else []
+
+-- those that it leaves out
+abbrev pub left_out_by : List Text → Text → List ℕ
+left_out_by header word = if is_none (excluded header word) then [] else meant header word
 
 -- ---- all words
 
+-- the columns that are asked for, or else all
+abbrev pub asked_or_all : ℕ → List ℕ → List ℕ
+asked_or_all columns asked = if length asked == 0 then range_with_len 0 columns else asked
+
 module _ {A : Type 0} (words : List (String A)) (header : List Text) where
-  -- whether a word leaves this column out, or none does
+  -- the columns that words ask for, in their order
+  abbrev pub asked : List ℕ
+  asked = flat_map (λ word. asked_by header (string_bytes word)) words
+
+  -- whether a word leaves this column out
   abbrev pub is_left_out : ℕ → Bool
-  is_left_out place = list_any (λ word. leaves_out header (string_bytes word) place) words
+  is_left_out column = list_any (λ word. list_any (λ other. other == column) (left_out_by header (string_bytes word))) words
 
-  abbrev pub stays : ℕ → Bool
-  stays place = not (is_left_out place)
-
-  -- those of columns side by side that no word leaves out
-  abbrev pub staying : Run → List ℕ
-  staying run = filter stays (range_with_len run.first (run.end - run.first))
-
-  -- those that a word asks for
-  abbrev pub asked_by : Text → List ℕ
-  asked_by word = if is_some (excluded header word) then [] else staying (run_of header word)
-
-  -- each word leaves columns out
-  abbrev pub ask_for_none : Bool
-  ask_for_none = list_all (λ word. is_some (excluded header (string_bytes word))) words
-
-  -- The columns that are shown: those that the words ask for, in their order, or all where none asks for any. Those that a word leaves out aren't.
+  -- The columns that are shown: those that the words ask for, or all where none asks for any, without those that a word leaves out.
   abbrev pub columns_in : List ℕ
-  columns_in = if ask_for_none then staying (record { first = 0; end = length header }) else flat_map (λ word. asked_by (string_bytes word)) words
+  columns_in = filter (λ column. not (is_left_out column)) (asked_or_all (length header) asked)
 
   -- the first word that means no column
   abbrev pub missing_word : Option ℕ
-  missing_word = position (λ word. is_empty (meant_run header (string_bytes word))) words
+  missing_word = position (λ word. length (meant header (string_bytes word)) == 0) words
 
   -- the last word, if there are words, but no columns
   abbrev pub last_word : Option ℕ

@@ -1,8 +1,10 @@
 //! The shown columns.
 
-ghost use Rattle.std.specs.Prelude.{◌≡◌, ◌++◌, ◌<◌, ◌∷◌, [], Some, length, map, option_map, slice_index_or, string_bytes, IfOk, IfSome, OnOk};
-ghost use Rattle.std.specs.List.{filter};
-ghost use Rattle.std.specs.Option.{option_or};
+ghost use Rattle.std.specs.Prelude.{◌≡◌, ◌++◌, ◌-◌, ◌∷◌, ◌==◌, ℕ, [], None, Some, length, map, nat_eq, not, ◌||◌, option_map, slice_index_or, IfOk, OnOk};
+ghost use Rattle.std.specs.HashSet.{contains};
+ghost use Rattle.std.specs.List.{ends_with, filter, list_any, range_with_len, starts_with};
+ghost use Rattle.std.specs.Option.{option_map_or, option_or};
+ghost use Rattle.std.specs.Str.{bytes_eq};
 ghost use Rattle.csv.specs.Records.{fields_of};
 ghost use Rattle.ruled_table.specs.Columns as spec;
 ghost use Rattle.ruled_table.specs.Faults.{Tells};
@@ -12,6 +14,7 @@ use crate::fault::ViewFault;
 use crate::numbers::are_digits;
 use csv::StringRecord;
 use std::alloc::{AllocError, Global};
+use std::collections::{HashMap, HashSet};
 
 /// What is set for a column: one value alone is for all.
 pub(crate) fn told_of<T: Copy>(words: &[Option<T>], column: usize) -> Option<T>
@@ -44,19 +47,23 @@ pub(crate) fn drawn_at(fields: &StringRecord, place: Option<usize>) -> &str
     }
 }
 
-/// Columns side by side, by their places: the first one, and the one after the last.
-#[derive(Clone, Copy)]
-pub(crate) struct Run {
-    first: usize,
-    end: usize,
+// The first column of each name.
+fn first_columns(alloc: Global, header: &StringRecord) -> Result<HashMap<&str, usize>, AllocError>
+    ensures { IfOk result (spec.HasFirst (fields_of header.now)) }
+{
+    let mut first = HashMap::with_capacity(alloc, header.len())?;
+    for place in (0..header.len()).rev() {
+        first.insert(field_at(header, place), place)?;
+    }
+    Ok(first)
 }
 
-/// The first column of this name.
-pub fn column_of(header: &StringRecord, name: &str) -> Option<usize>
-    ensures place { result ≡ spec.column_of (fields_of header.now) name.now }
-    ensures within { IfSome result (λ place. place < length (fields_of header.now)) }
+// The first column of this name.
+fn column_of(header: &StringRecord, first: &HashMap<&str, usize>, name: &str) -> Option<usize>
+    requires { spec.HasFirst (fields_of header.now) first.now }
+    ensures { result ≡ spec.column_of (fields_of header.now) name.now }
 {
-    (0..header.len()).find(|place| field_at(header, *place) == name)
+    first.get(name).copied()
 }
 
 // The number that digits write, or 0 if a word isn't digits.
@@ -72,173 +79,258 @@ fn number_in(word: &str) -> usize
     }
 }
 
+// The columns from one place to the one before another.
+fn columns_between(alloc: Global, first: usize, end: usize) -> Result<Vec<usize>, AllocError>
+    ensures { IfOk result (λ columns. columns.items ≡ range_with_len first (end - first)) }
+{
+    let mut columns = Vec::new(alloc);
+    for column in first..end {
+        columns.push(column)?;
+    }
+    Ok(columns)
+}
+
 // Of so many columns those from one number to another, if there are these.
-fn numbered(columns: usize, first: usize, last: usize) -> Run
-    ensures { result ≡ spec.numbered columns first last }
+fn numbered(
+    alloc: Global,
+    columns: usize,
+    first: usize,
+    last: usize,
+) -> Result<Vec<usize>, AllocError>
+    ensures { IfOk result (λ places. places.items ≡ spec.numbered columns first last) }
 {
     if 0 < first && first <= last && last <= columns {
-        Run {
-            first: first - 1,
-            end: last,
-        }
-    } else {
-        Run { first: 0, end: 0 }
+        return columns_between(alloc, first - 1, last);
     }
+    Ok(Vec::new(alloc))
 }
 
 // Those of a number, or of two with a dash between them.
-fn numbered_run(columns: usize, word: &str) -> Run
-    ensures { result ≡ spec.numbered_run columns word.now }
+fn numbered_columns(alloc: Global, columns: usize, word: &str) -> Result<Vec<usize>, AllocError>
+    ensures { IfOk result (λ places. places.items ≡ spec.numbered_columns columns word.now) }
 {
     match word.split_once('-') {
-        Some((first, last)) => numbered(columns, number_in(first), number_in(last)),
-        None => numbered(columns, number_in(word), number_in(word)),
+        Some((first, last)) => numbered(alloc, columns, number_in(first), number_in(last)),
+        None => numbered(alloc, columns, number_in(word), number_in(word)),
     }
 }
 
-// The columns that a word asks for: the first one of this name, or else those of its numbers.
-fn run_of(header: &StringRecord, word: &str) -> Run
-    ensures { result ≡ spec.run_of (fields_of header.now) word.now }
+// The text between two slashes.
+fn pattern_of(word: &str) -> Option<&str>
+    ensures { option_map (λ it. it.now) result ≡ spec.pattern_of word.now }
 {
-    let columns = header.len();
-    match column_of(header, word) {
-        Some(place) => Run {
-            first: place,
-            end: place + 1,
-        },
-        None => numbered_run(columns, word),
+    match word.strip_prefix('/') {
+        Some(rest) => rest.strip_suffix('/'),
+        None => None,
+    }
+}
+
+// Whether a name begins with a text, or, if there is a `$` at the end of that, is the text before it.
+fn begins_with(text: &str, name: &str) -> bool
+    ensures { result ≡ option_map_or (bytes_eq name.now) (spec.before 36 text.now) (starts_with nat_eq name.now text.now) }
+{
+    match text.strip_suffix('$') {
+        Some(whole) => name == whole,
+        None => name.starts_with(text),
+    }
+}
+
+// Whether a name contains a text, or, if there is a `$` at the end of that, ends with the text before it.
+fn has_text(text: &str, name: &str) -> bool
+    ensures { result ≡ option_map_or (ends_with nat_eq name.now) (spec.before 36 text.now) (spec.has_part text.now name.now) }
+{
+    match text.strip_suffix('$') {
+        Some(end) => name.ends_with(end),
+        None => name.contains(text),
+    }
+}
+
+// Whether a name fits a pattern.
+fn fits(pattern: &str, name: &str) -> bool
+    ensures { result ≡ spec.fits pattern.now name.now }
+{
+    match pattern.strip_prefix('^') {
+        Some(text) => begins_with(text, name),
+        None => has_text(pattern, name),
+    }
+}
+
+// The columns whose names fit a pattern.
+fn fitting(alloc: Global, header: &StringRecord, pattern: &str) -> Result<Vec<usize>, AllocError>
+    ensures { IfOk result (λ places. places.items ≡ spec.fitting (fields_of header.now) pattern.now) }
+{
+    (0..header.len())
+        .filter(|column| fits(pattern, field_at(header, *column)))
+        .collect(alloc)
+}
+
+// The columns of a word without one of its name: those that fit its pattern, or those of its numbers.
+fn unnamed_columns(
+    alloc: Global,
+    header: &StringRecord,
+    word: &str,
+) -> Result<Vec<usize>, AllocError>
+    ensures { IfOk result (λ places. places.items ≡ spec.unnamed_columns (fields_of header.now) word.now) }
+{
+    match pattern_of(word) {
+        Some(pattern) => fitting(alloc, header, pattern),
+        None => numbered_columns(alloc, header.len(), word),
+    }
+}
+
+// The columns of a word: the first one of this name, or else those that it describes.
+fn columns_of(
+    alloc: Global,
+    header: &StringRecord,
+    first: &HashMap<&str, usize>,
+    word: &str,
+) -> Result<Vec<usize>, AllocError>
+    requires { spec.HasFirst (fields_of header.now) first.now }
+    ensures { IfOk result (λ places. places.items ≡ spec.columns_of (fields_of header.now) word.now) }
+{
+    match column_of(header, first, word) {
+        Some(place) => Ok(vec![in alloc; place]?),
+        None => unnamed_columns(alloc, header, word),
     }
 }
 
 // The word after a `!`, if it leaves columns out.
-fn excluded<'a>(header: &StringRecord, word: &'a str) -> Option<&'a str>
+fn excluded<'a>(
+    header: &StringRecord,
+    first: &HashMap<&str, usize>,
+    word: &'a str,
+) -> Option<&'a str>
+    requires { spec.HasFirst (fields_of header.now) first.now }
     ensures { option_map (λ it. it.now) result ≡ spec.excluded (fields_of header.now) word.now }
 {
-    if column_of(header, word).is_some() {
+    if column_of(header, first, word).is_some() {
         return None;
     }
     word.strip_prefix('!')
 }
 
-// Whether a column is among those side by side.
-fn has_place(run: Run, place: usize) -> bool
-    ensures { result ≡ spec.has_place run place }
-{
-    run.first <= place && place < run.end
+/// The columns that words ask for, in their order, and those that they leave out.
+#[derive(Drop)]
+struct Choice {
+    asked: Vec<usize>,
+    left_out: HashSet<usize>,
 }
 
-// Whether a word leaves out the column at this place.
-fn leaves_out(header: &StringRecord, word: &str, place: usize) -> bool
-    ensures { result ≡ spec.leaves_out (fields_of header.now) word.now place }
+// Leaves these columns out.
+fn leave_out(columns: &[usize], left_out: &mut HashSet<usize>) -> Result<(), AllocError>
+    ensures { OnOk result ((column : ℕ) → contains nat_eq left_out.new column ≡ (contains nat_eq left_out.old column || list_any (λ other. other == column) columns.now)) }
 {
-    match excluded(header, word) {
-        Some(word) => has_place(run_of(header, word), place),
-        None => false,
-    }
-}
-
-// Whether a word means no column.
-fn is_missing(header: &StringRecord, word: &str) -> bool
-    ensures { result ≡ spec.is_empty (spec.meant_run (fields_of header.now) word.now) }
-{
-    let run = run_of(header, excluded(header, word).unwrap_or(word));
-    run.end <= run.first
-}
-
-// The first word that means no column.
-fn missing_word(header: &StringRecord, words: &[String]) -> Option<usize>
-    ensures { result ≡ spec.missing_word words.now (fields_of header.now) }
-{
-    words
-        .iter()
-        .position(|word| is_missing(header, word.as_str()))
-}
-
-// Whether a word leaves this column out.
-fn is_left_out(header: &StringRecord, words: &[String], place: usize) -> bool
-    ensures { result ≡ spec.is_left_out words.now (fields_of header.now) place }
-{
-    words
-        .iter()
-        .any(|word| leaves_out(header, word.as_str(), place))
-}
-
-// Adds a column, unless a word leaves it out.
-fn push_column(
-    words: &[String],
-    header: &StringRecord,
-    place: usize,
-    places: &mut Vec<Option<usize>>,
-) -> Result<(), AllocError>
-    ensures { OnOk result (places.new.items ≡ places.old.items ++ map Some (filter (spec.stays words.now (fields_of header.now)) (place ∷ []))) }
-{
-    if is_left_out(header, words, place) {
-        return Ok(());
-    }
-    Ok(places.push(Some(place))?)
-}
-
-// Adds those columns side by side that no word leaves out.
-fn push_staying(
-    words: &[String],
-    header: &StringRecord,
-    run: Run,
-    places: &mut Vec<Option<usize>>,
-) -> Result<(), AllocError>
-    ensures { OnOk result (places.new.items ≡ places.old.items ++ map Some (spec.staying words.now (fields_of header.now) run)) }
-{
-    let count = run.end.saturating_sub(run.first);
-    for offset in 0..count {
-        push_column(words, header, run.first + offset, places)?;
+    for column in columns {
+        left_out.insert(*column)?;
     }
     Ok(())
 }
 
-// Adds the columns that a word asks for.
-fn push_asked(
+// Those of these columns that aren't left out.
+fn staying(
+    alloc: Global,
+    columns: &[usize],
+    left_out: &HashSet<usize>,
+) -> Result<Vec<Option<usize>>, AllocError>
+    ensures { IfOk result (λ places. places.items ≡ map Some (filter (λ column. not (contains nat_eq left_out.now column)) columns.now)) }
+{
+    let mut places = Vec::new(alloc);
+    for column in columns {
+        if !left_out.contains(column) {
+            places.push(Some(*column))?;
+        }
+    }
+    Ok(places)
+}
+
+impl Choice {
+    // Adds the columns of a word, and says whether it has any.
+    fn add(
+        &mut self,
+        alloc: Global,
+        header: &StringRecord,
+        first: &HashMap<&str, usize>,
+        word: &str,
+    ) -> Result<bool, AllocError>
+        requires { spec.HasFirst (fields_of header.now) first.now }
+        ensures asked { OnOk result (self.new.asked.items ≡ self.old.asked.items ++ spec.asked_by (fields_of header.now) word.now) }
+        ensures left_out { OnOk result ((column : ℕ) → contains nat_eq self.new.left_out column ≡ (contains nat_eq self.old.left_out column || list_any (λ other. other == column) (spec.left_out_by (fields_of header.now) word.now))) }
+        ensures some { IfOk result (λ some. some ≡ not (length (spec.meant (fields_of header.now) word.now) == 0)) }
+    {
+        match excluded(header, first, word) {
+            Some(word) => {
+                let columns = columns_of(alloc, header, first, word)?;
+                leave_out(columns.as_slice(), &mut self.left_out)?;
+                Ok(!columns.is_empty())
+            }
+            None => {
+                let columns = columns_of(alloc, header, first, word)?;
+                self.asked.extend_from_slice(columns.as_slice())?;
+                Ok(!columns.is_empty())
+            }
+        }
+    }
+
+    // Those of so many columns that are shown.
+    fn shown(&self, alloc: Global, columns: usize) -> Result<Vec<Option<usize>>, AllocError>
+        ensures { IfOk result (λ places. places.items ≡ map Some (filter (λ column. not (contains nat_eq self.now.left_out column)) (spec.asked_or_all columns self.now.asked.items))) }
+    {
+        if !self.asked.is_empty() {
+            return staying(alloc, self.asked.as_slice(), &self.left_out);
+        }
+        let all = columns_between(alloc, 0, columns)?;
+        staying(alloc, all.as_slice(), &self.left_out)
+    }
+}
+
+// What words ask for and leave out, or the first word without a column.
+fn choice_in(
+    alloc: Global,
     words: &[String],
     header: &StringRecord,
-    word: &str,
-    places: &mut Vec<Option<usize>>,
-) -> Result<(), AllocError>
-    ensures { OnOk result (places.new.items ≡ places.old.items ++ map Some (spec.asked_by words.now (fields_of header.now) word.now)) }
+    first: &HashMap<&str, usize>,
+) -> Result<Choice, ViewFault>
+    requires { spec.HasFirst (fields_of header.now) first.now }
+    ensures asked { IfOk result (λ choice. choice.asked.items ≡ spec.asked words.now (fields_of header.now)) }
+    ensures left_out { IfOk result (λ choice. (column : ℕ) → contains nat_eq choice.left_out column ≡ spec.is_left_out words.now (fields_of header.now) column) }
+    ensures found { OnOk result (spec.missing_word words.now (fields_of header.now) ≡ None) }
+    ensures fault { Tells (option_map Column (spec.missing_word words.now (fields_of header.now))) result }
 {
-    if excluded(header, word).is_some() {
-        return Ok(());
+    let mut choice = Choice {
+        asked: Vec::new(alloc),
+        left_out: HashSet::new(alloc),
+    };
+    for (at, word) in words.iter().enumerate() {
+        if !choice.add(alloc, header, first, word.as_str())? {
+            return Err(ViewFault::Column(at));
+        }
     }
-    push_staying(words, header, run_of(header, word), places)
+    Ok(choice)
 }
 
-// Whether each word leaves columns out.
-fn ask_for_none(words: &[String], header: &StringRecord) -> bool
-    ensures { result ≡ spec.ask_for_none words.now (fields_of header.now) }
+// So many columns.
+fn all_columns(alloc: Global, count: usize) -> Result<Vec<Option<usize>>, AllocError>
+    ensures { IfOk result (λ places. places.items ≡ map Some (range_with_len 0 count)) }
 {
-    words
-        .iter()
-        .all(|word| excluded(header, word.as_str()).is_some())
+    (0..count).map(Some).collect(alloc)
 }
 
-// The columns that are shown of rows with this header.
+// The columns that are shown of rows with this header, or the first word without a column.
 fn columns_in(
     alloc: Global,
     words: &[String],
     header: &StringRecord,
-) -> Result<Vec<Option<usize>>, AllocError>
-    ensures { IfOk result (λ places. places.items ≡ map Some (spec.columns_in words.now (fields_of header.now))) }
+) -> Result<Vec<Option<usize>>, ViewFault>
+    ensures places { IfOk result (λ places. places.items ≡ map Some (spec.columns_in words.now (fields_of header.now))) }
+    ensures found { OnOk result (spec.missing_word words.now (fields_of header.now) ≡ None) }
+    ensures fault { Tells (option_map Column (spec.missing_word words.now (fields_of header.now))) result }
 {
-    let mut places = Vec::new(alloc);
-    if ask_for_none(words, header) {
-        let all = Run {
-            first: 0,
-            end: header.len(),
-        };
-        push_staying(words, header, all, &mut places)?;
-        return Ok(places);
+    if words.is_empty() {
+        return Ok(all_columns(alloc, header.len())?);
     }
-    for word in words {
-        push_asked(words, header, word.as_str(), &mut places)?;
-    }
-    Ok(places)
+    let first = first_columns(alloc, header)?;
+    let choice = choice_in(alloc, words, header, &first)?;
+    Ok(choice.shown(alloc, header.len())?)
 }
 
 // The columns that are shown of rows with this header, or the word that is wrong.
@@ -250,9 +342,6 @@ fn places_in(
     ensures places { IfOk result (λ places. places.items ≡ map Some (spec.columns_in words.now (fields_of header.now))) }
     ensures fault { Tells (option_map Column (option_or (spec.missing_word words.now (fields_of header.now)) (spec.last_word words.now (fields_of header.now)))) result }
 {
-    if let Some(word) = missing_word(header, words) {
-        return Err(ViewFault::Column(word));
-    }
     let places = columns_in(alloc, words, header)?;
     if places.is_empty() && !words.is_empty() {
         return Err(ViewFault::Column(words.len() - 1));

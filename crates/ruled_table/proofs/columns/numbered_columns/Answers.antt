@@ -3,7 +3,7 @@ use Rattle.std.specs.List.{list_any, position_or_len}
 use Rattle.std.proofs.lemmas.Str.Pattern.{split_once_first}
 use Rattle.ruled_table.specs.Columns.{is_dash}
 use Rattle.ruled_table.proofs.WordsOfColumns.{none-any}
-use Rattle.ruled_table.proofs.columns.numbered_run.Goals as goal
+use Rattle.ruled_table.proofs.columns.numbered_columns.Goals as goal
 
 pub returns-in-None : goal.returns-in-None
 returns-in-None c =
