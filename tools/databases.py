@@ -1,8 +1,10 @@
 """Random databases, which sqlite3 makes in memory: their headers, their schemas and their rows."""
 import itertools
 import math
+import random
 import sqlite3
 import struct
+import sys
 
 WIDE, NARROW = "茶日本😀", "\u0301"
 HIDDEN = "\u200b\u202e\ufeff\u00ad"
@@ -66,6 +68,9 @@ def begun(rng):
 
 class Database:
     """A random database, and what is known of its tables beyond what sqlite3 reads."""
+
+    # So many of its tables are compared.
+    most_compared = 4
 
     def __init__(self, rng, most_rows):
         self.rng, self.most_rows, self.connection = rng, most_rows, begun(rng)
@@ -348,3 +353,17 @@ class Database:
         for name, kind in self.connection.execute(query).fetchall():
             columns = self.connection.execute("select name from pragma_table_xinfo(?)", (name,)) if kind == "table" else []
             yield name, kind, ", ".join(column for (column,) in columns)
+
+
+class Given(Database):
+    """The database of a file, any of whose tables may have a default that isn't supported."""
+
+    most_compared = sys.maxsize
+
+    def __init__(self, file):
+        self.rng, self.connection = random.Random(0), sqlite3.connect(f"file:{file}?mode=ro&immutable=1", uri=True)
+        (self.encoding,) = self.connection.execute("pragma encoding").fetchone()
+        self.repeating, self.older = set(), {name for name, _, _ in self.items()}
+
+    def close(self):
+        self.connection.close()
