@@ -14,3 +14,4 @@ pub mod Owners
 pub mod DrawnRectangles
 pub mod Computing
 pub mod StraightColumns
+mod Rulesets

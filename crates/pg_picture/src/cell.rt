@@ -296,6 +296,7 @@ pub(crate) fn shows_texts_whole<A: Allocator>(style: &CellStyle<'_, A>) -> bool
 /// Precondition: the cell has room for its text; [`crate::fits::cell_fits`] of height 1 tests it.
 /// The only error is out of memory; the buffer then has gained a beginning.
 #[inline(always)]
+#[tactic(auto, using(crate::proofs::Rulesets::room_of_texts))]
 pub fn push_single_line<C: ANSIFmt, B: Allocator, A: Allocator>(
     buf: &mut String<A>,
     style: &CellStyle<'_, B>,

@@ -40,6 +40,7 @@ pub fn push_compact_indent<A: Allocator>(
 ///
 /// The only error is out of memory; the buffer then has gained a beginning.
 #[inline(always)]
+#[tactic(auto, using(crate::proofs::Rulesets::glyph_texts))]
 pub fn push_border_glyph<A: Allocator>(
     buf: &mut String<A>,
     glyph: Option<char>,
@@ -77,6 +78,7 @@ pub fn push_compact_cell<C: ANSIFmt, A: Allocator>(
 // The first line of a text, and how many terminal columns it takes. A text of plain bytes is its one
 // line, and is read once for both.
 #[inline(always)]
+#[tactic(auto, using(crate::proofs::Rulesets::plain_texts))]
 fn shown_line(text: &str) -> (&str, usize)
     ensures line { result.0.now ≡ first_line_of text.now }
     ensures width { result.1 ≡ width_of result.0.now }
@@ -108,6 +110,7 @@ fn free_shares(alignment: AlignmentHorizontal, got: usize, room: usize) -> (usiz
 }
 
 // The left padding, and the share left of the line: one run if both are plain spaces.
+#[tactic(auto, using(crate::proofs::Rulesets::repeated_texts))]
 fn push_left_side<A: Allocator>(
     buf: &mut String<A>,
     padding: Indent,
@@ -124,6 +127,7 @@ fn push_left_side<A: Allocator>(
 }
 
 // The share right of the line, and the right padding: one run if both are plain spaces.
+#[tactic(auto, using(crate::proofs::Rulesets::repeated_texts))]
 fn push_right_side<A: Allocator>(
     buf: &mut String<A>,
     padding: Indent,
@@ -141,6 +145,7 @@ fn push_right_side<A: Allocator>(
 
 // How many spaces a padding makes together with a share beside it, if it is plain spaces.
 #[inline(always)]
+#[tactic(auto, using(crate::proofs::Rulesets::indent_texts))]
 fn spaces_together(padding: Indent, color: ANSIStr<'_>, share: usize) -> Option<usize>
     ensures plain { IsSome result → compact_indent padding.fill padding.size (str_color color.entry) ≡ repeated 32 padding.size }
     ensures size { IfSome result (λ size. size ≡ padding.size + share) }

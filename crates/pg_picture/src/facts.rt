@@ -120,6 +120,7 @@ fn line_facts(line: &str, formatting: Formatting) -> (bool, usize)
 /// How many terminal columns a text of one line takes; nothing if it has more lines. A text that is
 /// known to be plain isn't read.
 #[inline(always)]
+#[tactic(auto, using(crate::proofs::Rulesets::plain_texts))]
 pub(crate) fn single_line_width(text: &str, kind: TextKind) -> Option<usize>
     requires { IsOfKind kind text.now }
     ensures one { IfSome result (λ _. lines_of text.now ≡ text.now ∷ []) }
@@ -186,6 +187,7 @@ pub struct TextFacts {
 impl TextFacts {
     /// The facts of a text, whose lines are read once.
     #[inline(always)]
+    #[tactic(auto, using(crate::proofs::Rulesets::single_texts))]
     pub fn of_text(text: &str, formatting: Formatting) -> TextFacts
         ensures { result ≡ facts_of formatting text.now }
     {

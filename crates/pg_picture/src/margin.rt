@@ -51,6 +51,7 @@ pub fn push_side_margin<C: ANSIFmt, A: Allocator>(
     push_margin_columns(buf, indent, offset, color, line, height)
 }
 
+#[tactic(auto, using(crate::proofs::Rulesets::side_texts))]
 fn push_margin_columns<C: ANSIFmt, A: Allocator>(
     buf: &mut String<A>,
     indent: Indent,

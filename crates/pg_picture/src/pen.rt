@@ -120,6 +120,7 @@ where
 
     /// Whether there is a separator above a row of so many rows, or below the last one.
     #[inline(always)]
+    #[tactic(auto, using(crate::proofs::FittingTables::no_row_line))]
     pub fn has_horizontal(self, row: usize, rows: usize) -> bool
         ensures { result ≡ has_horizontal T.table.config row rows }
     {

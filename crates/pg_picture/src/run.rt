@@ -96,6 +96,7 @@ impl<'a, C: ANSIFmt> Run<'a, C> {
 
     /// Appends `count` spaces, in the colour that is open.
     #[inline(always)]
+    #[tactic(auto, using(crate::proofs::Rulesets::texts_of_spaces))]
     pub(crate) fn spaces<A: Allocator>(
         self,
         buf: &mut String<A>,

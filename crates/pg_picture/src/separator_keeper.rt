@@ -38,6 +38,7 @@ impl<'k> SeparatorKeeper<'k> {
 
     /// The text that is kept.
     #[inline(always)]
+    #[tactic(auto, using(crate::proofs::Rulesets::kept_texts))]
     pub fn text(&self) -> Option<&str>
         ensures { option_map (λ text. text.now) result ≡ self.now.text }
     {

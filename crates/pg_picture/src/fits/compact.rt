@@ -44,6 +44,7 @@ pub fn compact_fits<D: Dimension>(
 /// if they exceed `usize::MAX`.
 ///
 /// Precondition: there are fewer than `usize::MAX` columns, as there are if [`compact_fits`] holds.
+#[tactic(auto, unfolding(crate::specs::CompactLines::compact_full_width))]
 pub fn compact_full_width<D: Dimension>(
     config: &CompactConfig,
     dimension: &D,
@@ -57,6 +58,7 @@ pub fn compact_full_width<D: Dimension>(
     plus(plus(width, margin.left.size), margin.right.size)
 }
 
+#[tactic(auto, unfolding(crate::specs::CompactLines::compact_width))]
 fn compact_width<D: Dimension>(
     config: &CompactConfig,
     dimension: &D,

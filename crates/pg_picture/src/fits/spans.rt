@@ -18,7 +18,7 @@ use std::alloc::Allocator;
 /// a table of so many rows and columns, and shares no place with another one.
 ///
 /// It searches once in each column of a rectangle in which another one begins. Allocates nothing.
-#[tactic(auto, unfolding(crate::specs::Fits::spans_fit))]
+#[tactic(auto, unfolding(crate::specs::Fits::spans_fit), using(crate::proofs::OwnersOfPlaces::have_ends))]
 pub fn spans_fit<A: Allocator>(config: &SpannedConfig<A>, rows: usize, columns: usize) -> bool
     ensures { result ≡ spans_fit config.now.spans rows columns }
 {
@@ -28,7 +28,7 @@ pub fn spans_fit<A: Allocator>(config: &SpannedConfig<A>, rows: usize, columns: 
 
 /// Whether every rectangle of a cell with a span has at least one row and one column, ends within
 /// so many columns, and shares no place with another one. Allocates nothing.
-#[tactic(auto, unfolding(crate::specs::Fits::spans_fit_columns))]
+#[tactic(auto, unfolding(crate::specs::Fits::spans_fit_columns), using(crate::proofs::OwnersOfPlaces::have_ends_columns))]
 pub fn spans_fit_columns<A: Allocator>(config: &SpannedConfig<A>, columns: usize) -> bool
     ensures { result ≡ spans_fit_columns config.now.spans columns }
 {

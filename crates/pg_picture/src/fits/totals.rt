@@ -65,6 +65,7 @@ pub fn full_width<A: Allocator, D: Dimension>(
 /// How many lines the body of the table has, or `None` if they exceed `usize::MAX`.
 ///
 /// Precondition: there are fewer than `usize::MAX` rows, as there are if [`totals_fit`] holds.
+#[tactic(auto, unfolding(crate::specs::Fits::body_height))]
 pub fn body_height<A: Allocator, D: Dimension>(
     config: &SpannedConfig<A>,
     dimension: &D,

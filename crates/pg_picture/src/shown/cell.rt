@@ -13,6 +13,7 @@ use std::alloc::Allocator;
 /// those from the first to the last one that isn't blank.
 ///
 /// Allocates nothing.
+#[tactic(auto, using(crate::proofs::Rulesets::numbers_of_shown_lines))]
 pub fn count_shown_lines(text: &str, formatting: Formatting) -> usize
     ensures { result ≡ length (shown formatting text.now) }
 {

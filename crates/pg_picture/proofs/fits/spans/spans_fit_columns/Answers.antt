@@ -1,6 +1,0 @@
-use Rattle.std.proofs.Common.{◌∙◌, sym, arith}
-use Rattle.pg_picture.proofs.OwnersOfPlaces.{have_ends_columns}
-use Rattle.pg_picture.proofs.fits.spans.spans_fit_columns.Goals as goal
-
-pub all_apart-requires-clause-ends : goal.all_apart-requires-clause-ends
-all_apart-requires-clause-ends g c = have_ends_columns c.args.columns c.spans-spans.result.now (omega arith) (sym c.all_fit_columns.ensures ∙ c.if-all_fit_columns.true)
