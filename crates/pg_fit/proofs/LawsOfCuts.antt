@@ -429,3 +429,15 @@ cut_cell-fits tail width text h =
     let is = first_line_of-one text (grind (arith, nat_tests)) in
     let low : width_of (first_line_of text) ≤ width = rw is (grind (arith, nat_tests)) in
     cut_line-fits width tail (first_line_of text) low ∙ is
+
+-- cells that fit stay as they are
+pub ruleset fitting_cells = (cut_cell-fits)
+
+-- what cut lines and texts are like
+pub ruleset laws_of_cuts = (cut_lines_fit, cut_texts_stay, cut_lines_stand, cut_texts_fit)
+
+-- what lines and texts are like whose beginning or middle is cut away
+pub ruleset laws_of_cuts_away = (front_cuts_fit, cut_away_lines_fit, cut_away_texts_stay, cut_away_lines_stand, cut_away_texts_fit)
+
+-- where a line may be cut
+pub ruleset boundaries = (IsCharBoundary-start, beginning-boundary)

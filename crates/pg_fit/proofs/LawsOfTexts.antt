@@ -19,6 +19,7 @@ use Rattle.std.proofs.lemmas.List.Elements.{All-nil, All-cons}
 use Rattle.std.proofs.lemmas.Str.{IsUtf8-nil, IsUtf8-append, IsUtf8-encode, inside_one, encode_ascii, len_utf8_bounds, length-encode}
 use Rattle.std.proofs.Math.Utf8.{encode, scalars, scalar}
 use Rattle.std.proofs.lemmas.Grind.{flat_map-append}
+use Rattle.pg_layout.proofs.TextLines.{lines_of-one, feed_place-plain}
 
 -- ---- lines that fit, from which nothing is lost
 
@@ -560,3 +561,9 @@ only_spaces_are_lost width line utf8 =
           ∙ indented-kept (words line) (words-spaces line)
           ∙ words-kept line
     ]
+
+-- plain texts are lines
+pub ruleset single_lines = (lines_of-one, feed_place-plain)
+
+-- what the lines of a wrapped text are like
+pub ruleset laws_of_lines = (lines_fit, nothing_is_lost, fitting_texts_stay, only_spaces_are_lost)

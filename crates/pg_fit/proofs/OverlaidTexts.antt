@@ -50,3 +50,6 @@ module _ {R Z : Type 0} (texts : R → Table) (columns : R → ℕ) where
 
   pub rows-given : (s : OverlaidRows R Z) → Gives GivesCells (λ _. Unit {0}) (YieldsFirstBy cells_left rows_left) (item_count rows_left) s (rows_left s)
   rows-given s = record { can_next = tt; ends = tt; gives = yields-all GivesCells cells_left rows_left cells-given s (rows_left s) refl }
+
+-- how many rows and columns there are
+pub ruleset overlaid_sizes = (length-overlaid, even-overlaid)

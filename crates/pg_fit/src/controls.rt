@@ -51,6 +51,7 @@ pub fn sign_of(c: char) -> char
 
 /// Whether a text may be sent to a terminal as it is: it has no control character except line
 /// feeds, and no hidden character (see [`visible`]).
+#[tactic(auto, using(crate::proofs::LawsOfControls::printable_texts_are_seen))]
 pub fn is_visible(text: &str) -> bool
     ensures { result ≡ list_all (λ c. not (is_control c)) (chars text.now) }
 {
@@ -74,6 +75,7 @@ pub(crate) fn is_printable(bytes: &[u8]) -> bool
 
 // Both blocks are tested: a branch between them costs more than the second test.
 #[inline(always)]
+#[tactic(auto, using(crate::proofs::LawsOfControls::printable_halves))]
 fn has_printable_ends<const N: usize>(bytes: &[u8]) -> bool
     requires lanes { N ≤ 64 }
     requires one_block { N ≤ length bytes.now }

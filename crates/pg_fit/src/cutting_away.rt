@@ -141,6 +141,7 @@ fn cut_line<A: Allocator + Copy>(
 }
 
 // What a line that is cut keeps before its tail.
+#[tactic(auto, using(crate::proofs::LawsOfCuts::boundaries))]
 fn front_of<'l>(line: &'l str, width: usize, tail: &str, kept: Kept) -> &'l str
     requires { width_of tail.now ≤ width }
     ensures front { result.now ≡ kept_front kept width tail.now line.now }

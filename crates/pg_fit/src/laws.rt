@@ -12,6 +12,7 @@ ghost use Rattle.pg_fit.specs.Narrowing.{FillsTheRoom, WithinRanges, IsEvenHande
 /// Each line of a wrapped text is at most as wide as allowed, unless a character is wider. Broken
 /// between characters, the lines of a line together are that line; between words, up to spaces. A
 /// text that fits stays.
+#[tactic(auto, using(crate::proofs::LawsOfTexts::laws_of_lines))]
 pub fn wrapped_lines_fit()
     ensures fit { LinesFit }
     ensures whole { NothingIsLost }
@@ -21,6 +22,7 @@ pub fn wrapped_lines_fit()
 
 /// The lines of a wrapped text are those into which its lines were broken, so it is at most as wide
 /// as allowed, unless a character is wider.
+#[tactic(auto, using(crate::proofs::LawsOfTexts::lines_stand, crate::proofs::LawsOfTexts::wrapped_texts_fit))]
 pub fn wrapped_texts_fit()
     ensures lines { LinesStand }
     ensures fit { WrappedTextsFit }
@@ -28,6 +30,7 @@ pub fn wrapped_texts_fit()
 
 /// A cut text has as many lines as before, and a text that fits stays. Each line is at most as wide
 /// as allowed, if the tail is printable ASCII and ellipses.
+#[tactic(auto, using(crate::proofs::LawsOfCuts::laws_of_cuts))]
 pub fn cut_texts_fit()
     ensures line { CutLinesFit }
     ensures stay { CutTextsStay }
@@ -38,6 +41,7 @@ pub fn cut_texts_fit()
 /// A text that is cut in front or in the middle has as many lines as before, and a text that fits
 /// stays. Each line is at most as wide as allowed, if the tail is printable ASCII and ellipses; a line
 /// that is cut in front, with any tail.
+#[tactic(auto, using(crate::proofs::LawsOfCuts::laws_of_cuts_away))]
 pub fn front_and_middle_cuts_fit()
     ensures front { FrontCutsFit }
     ensures line { CutAwayLinesFit }
@@ -48,6 +52,7 @@ pub fn front_and_middle_cuts_fit()
 
 /// A visible text has no control character, and a text without one stays. Each replacement takes
 /// one column.
+#[tactic(auto, using(crate::proofs::LawsOfControls::no_controls_are_left, crate::proofs::LawsOfControls::visible_texts_stay, crate::proofs::LawsOfControls::signs_take_one_column))]
 pub fn visible_texts_are_seen()
     ensures none { NoControlsAreLeft }
     ensures stay { VisibleTextsStay }
@@ -56,6 +61,7 @@ pub fn visible_texts_are_seen()
 
 /// A text without its escape sequences has no escape, and as many lines as before; and a text without
 /// an escape stays.
+#[tactic(auto, using(crate::proofs::LawsOfControls::no_escapes_are_left, crate::proofs::LawsOfControls::texts_without_escapes_stay, crate::proofs::LawsOfControls::line_feeds_stay))]
 pub fn escapes_are_left_out()
     ensures none { NoEscapesAreLeft }
     ensures stay { TextsWithoutEscapesStay }

@@ -29,6 +29,7 @@ fn widest_character(text: &str) -> usize
 }
 
 // The width of the widest character of a line's words.
+#[tactic(auto, using(crate::proofs::LawsOfCuts::boundaries))]
 fn widest_in_words(line: &str) -> usize
     ensures { result ≡ least_line_width Breaking.BetweenWords line.now }
 {

@@ -76,6 +76,7 @@ pub(crate) fn columns_within(text: &str, width: usize, line: Line, end: usize) -
 }
 
 /// Whether each character of a text adds its own width to that of any text before it.
+#[tactic(auto, using(crate::proofs::LawsOfControls::printable_texts_add_up))]
 pub(crate) fn adds_up(text: &str) -> bool
     ensures { result ≡ list_all adds_up (chars text.now) }
 {

@@ -169,16 +169,19 @@ impl<'a, R: PeekableRecords + ExactRecords, A: Allocator> Records for &'a Overla
         }
     }
 
+    #[tactic(auto, using(crate::proofs::OverlaidTexts::overlaid_sizes))]
     fn count_columns(&self) -> usize {
         self.size().1
     }
 
+    #[tactic(auto, using(crate::proofs::OverlaidTexts::overlaid_sizes))]
     fn hint_count_rows(&self) -> Option<usize> {
         Some(self.size().0)
     }
 }
 
 impl<R: PeekableRecords + ExactRecords, A: Allocator> ExactRecords for &OverlaidRecords<R, A> {
+    #[tactic(auto, using(crate::proofs::OverlaidTexts::overlaid_sizes))]
     fn count_rows(&self) -> usize {
         self.size().0
     }

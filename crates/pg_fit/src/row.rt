@@ -54,6 +54,7 @@ pub(crate) fn width_of_column(widths: &[usize], column: usize) -> usize
 }
 
 // A cell, cut to so many columns.
+#[tactic(auto, using(crate::proofs::LawsOfCuts::fitting_cells))]
 fn fit_cell<S: AsStr + Drop, A: Allocator>(
     alloc: A,
     cell: S,

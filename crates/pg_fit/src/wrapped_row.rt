@@ -13,6 +13,7 @@ use std::alloc::{AllocError, Allocator};
 use std::convert::AsStr;
 
 // A cell, wrapped in so many columns.
+#[tactic(auto, using(crate::proofs::LawsOfTexts::fitting_texts_stay))]
 fn wrap_cell<S: AsStr + Drop, A: Allocator>(
     alloc: A,
     cell: S,
@@ -63,6 +64,7 @@ pub fn wrap_row<S: AsStr + Drop, B: Allocator, A: Allocator + Copy>(
 
 // How many lines a text has. A plain one has one, and isn't read again for it.
 #[inline(always)]
+#[tactic(auto, using(crate::proofs::LawsOfTexts::single_lines))]
 fn lines_in(text: &str) -> usize
     ensures { result ≡ length (lines_of text.now) }
 {
