@@ -84,7 +84,7 @@ def lay_out(program, folder):
     write(folder / PROGRAM, program.read_bytes(), 0o755)
     subprocess.run(["strip", "--remove-section=.comment", folder / PROGRAM], check=True)
     write(folder / COMMAND, (HERE / "ruled-launcher").read_bytes(), 0o755)
-    write(folder / PAGE, gzip.compress(written_by("man-page", program), 9, mtime=0))
+    write(folder / PAGE, gzip.compress(written_by("help-pages", "man", program), 9, mtime=0))
     for shell, name in COMPLETIONS.items():
-        write(folder / name, written_by("completions", shell, program))
+        write(folder / name, written_by("help-pages", shell, program))
     return [folder / name for name in FILES]
