@@ -48,8 +48,7 @@ fn run(
     text: &str,
     values: &[ValueRef<'_>],
 ) -> Result<(), Error>
-    ensures runs { OnOk result (spec.IsRun (text.now, bound values.now) connection.old connection.new) }
-    ensures limit { connection.new.step_limit ≡ connection.old.step_limit }
+    ensures { OnOk result (spec.IsRun (text.now, bound values.now) connection.old connection.new) }
 {
     connection.execute(text, values)?;
     Ok(())
@@ -63,8 +62,7 @@ fn insert_row(
     count: usize,
     fields: &StringRecord,
 ) -> Result<(), QueryFault>
-    ensures runs { OnOk result (spec.IsRun (text.now, spec.values_of count (fields_of fields.now)) connection.old connection.new) }
-    ensures limit { connection.new.step_limit ≡ connection.old.step_limit }
+    ensures { OnOk result (spec.IsRun (text.now, spec.values_of count (fields_of fields.now)) connection.old connection.new) }
 {
     let values = values_of(alloc, fields, count)?;
     run(connection, text, &values)?;
@@ -79,8 +77,7 @@ fn insert_rows(
     count: usize,
     records: &[StringRecord],
 ) -> Result<(), QueryFault>
-    ensures runs { OnOk result (spec.AreRun (spec.insertions text.now count (map fields_of records.now)) connection.old connection.new) }
-    ensures limit { connection.new.step_limit ≡ connection.old.step_limit }
+    ensures { OnOk result (spec.AreRun (spec.insertions text.now count (map fields_of records.now)) connection.old connection.new) }
 {
     for fields in records {
         insert_row(alloc, connection, text, count, fields)?;

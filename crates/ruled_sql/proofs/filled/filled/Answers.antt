@@ -18,5 +18,5 @@ returns-clause-filled c =
     let settle : c.as_str-3.result.now ≡ settle_text table = c.as_str-3.ensures.value ∙ c.in_ok-settling.ensures in
     filled-by (create_text table columns, []) (settle_text table, []) (insertions (insert_text table count) count records) made mid new
     (subst (λ (text : List ℕ). IsFilled ((text, []) ∷ []) made) create c.in_ok-connection.ensures.made)
-    (subst (λ (text : List ℕ). AreRun (insertions text count records) made mid) insert c.in_ok-insert_rows.ensures.runs)
-    (subst (λ (text : List ℕ). IsRun (text, []) mid new) settle c.in_default.ensures.runs)
+    (subst (λ (text : List ℕ). AreRun (insertions text count records) made mid) insert c.in_ok-insert_rows.ensures)
+    (subst (λ (text : List ℕ). IsRun (text, []) mid new) settle c.in_default.ensures)
