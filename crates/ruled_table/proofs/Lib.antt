@@ -3,5 +3,6 @@ pub mod FittingColumns
 pub mod Tables
 pub mod RowsInParts
 pub mod RowPictures
+pub mod PlainRecords
 pub mod DigitsAlone
 pub mod WordsOfColumns

@@ -23,6 +23,7 @@ use pg_layout::{ConstantDimension, NoColors};
 use pg_stream::SizedStream;
 use std::alloc::{AllocError, Global};
 use std::borrow::CowStr;
+use std::convert::AsStr;
 
 /// The printer of rows whose widths are known.
 pub(crate) type Sheet<'a> = SizedStream<'a, String, ConstantDimension, NoColors>;
@@ -56,18 +57,18 @@ fn owned(alloc: Global, cells: Vec<CowStr<'_>>) -> Result<Vec<String>, AllocErro
 }
 
 // Appends a row of one line, whose cells are lent.
-fn print_lent(
+fn print_lent<X: AsStr>(
     sheet: &mut Sheet<'_>,
-    cells: &[CowStr<'_>],
+    cells: &[X],
     lines: &mut String,
 ) -> Result<(), ViewFault>
     ensures lines { (heights : ℕ → ℕ) → IsNextHeight (state_of heights sheet.old).printed 1
-        → OnOk result (string_bytes lines.new ≡ string_bytes lines.old ++ row_text (state_of heights sheet.old).printed (map cow_str_bytes cells.now) false) }
+        → OnOk result (string_bytes lines.new ≡ string_bytes lines.old ++ row_text (state_of heights sheet.old).printed (map X.text cells.now) false) }
     ensures after { (heights : ℕ → ℕ) → IsNextHeight (state_of heights sheet.old).printed 1
-        → OnOk result (state_of heights sheet.new ≡ record { printed = after_row (state_of heights sheet.old).printed (map cow_str_bytes cells.now) false; is_lost = false }) }
+        → OnOk result (state_of heights sheet.new ≡ record { printed = after_row (state_of heights sheet.old).printed (map X.text cells.now) false; is_lost = false }) }
     ensures room { (heights : ℕ → ℕ) → IsNextHeight (state_of heights sheet.old).printed 1 → (state_of heights sheet.old).is_lost ≡ false
         → (state_of heights sheet.old).printed.table.config.spans ≡ []
-        → TellsRoom (¬ (RowFits (state_of heights sheet.old).printed (map cow_str_bytes cells.now) false)) result }
+        → TellsRoom (¬ (RowFits (state_of heights sheet.old).printed (map X.text cells.now) false)) result }
 {
     sheet.push_lent(cells, lines)?;
     Ok(())
@@ -204,6 +205,26 @@ impl<'a> RowLines<'a> {
         ensures failed { OnErr result (string_bytes buf.new ≡ string_bytes buf.old) }
     {
         print_row(self.alloc, &mut self.sheet, cells, &mut self.lines)?;
+        append_lines(self.is_begun, &mut self.lines, buf)?;
+        self.is_begun = true;
+        Ok(())
+    }
+
+    /// Appends the line of a row of these cells, each of one line, with a line feed after it.
+    pub(crate) fn push_lent<X: AsStr>(
+        &mut self,
+        cells: &[X],
+        buf: &mut String,
+    ) -> Result<(), ViewFault>
+        requires single { row_height (map X.text cells.now) ≡ 1 }
+        ensures lines { (plan : Plan) (above : List (List Text)) → HasDrawn plan above self.old
+            → OnOk result (GrowsTo (begun_of plan above) (begun_of plan (above ++ map X.text cells.now ∷ [])) (string_bytes buf.old) (string_bytes buf.new)) }
+        ensures after { (plan : Plan) (above : List (List Text)) → HasDrawn plan above self.old → OnOk result (HasDrawn plan (above ++ map X.text cells.now ∷ []) self.new) }
+        ensures room { (plan : Plan) (above : List (List Text)) → HasDrawn plan above self.old → TellsRoom (HasNoRoomBelow plan above (map X.text cells.now)) result }
+        ensures failed { OnErr result (string_bytes buf.new ≡ string_bytes buf.old) }
+    {
+        self.lines.clear();
+        print_lent(&mut self.sheet, cells, &mut self.lines)?;
         append_lines(self.is_begun, &mut self.lines, buf)?;
         self.is_begun = true;
         Ok(())

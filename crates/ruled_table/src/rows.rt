@@ -3,7 +3,9 @@
 
 ghost use Rattle.std.specs.Cow.{cow_str_bytes};
 ghost use Rattle.std.specs.Prelude.{◌≡◌, ◌+◌, ◌*◌, ◌<◌, length, map, true, IfOk};
+ghost use Rattle.std.specs.List.{list_all};
 ghost use Rattle.csv.specs.Records.{fields_of};
+ghost use Rattle.pg_layout.specs.Text.{is_plain_byte};
 ghost use Rattle.ruled_table.specs.Arranged.{both_ends, ends_of, gap_of, tails};
 ghost use Rattle.ruled_table.specs.Shown.{heads, seen_text, shown_text, limit_of};
 
@@ -13,8 +15,10 @@ use crate::numbers::GAP;
 use crate::options::Options;
 use csv::StringRecord;
 use pg_fit::{is_visible, visible};
+use pg_layout::is_plain;
 use std::alloc::{AllocError, Global};
 use std::borrow::CowStr;
+use std::str;
 
 // Whether a text is shown as it is: it is sent raw, or has no control characters.
 fn is_seen(is_raw: bool, text: &str) -> bool
@@ -70,8 +74,21 @@ pub(crate) fn stands(options: &Options, text: &str) -> bool
     is_plain_text(text)
 }
 
-/// Whether each field of a record is shown as it stands.
-pub(crate) fn all_stand(options: &Options, fields: &StringRecord) -> bool
+/// Whether each field of a record is a line of ASCII that is shown unchanged. All are tested at once, which costs less
+/// than a test of each.
+pub(crate) fn is_plain_record(options: &Options, fields: &StringRecord) -> bool
+    ensures unchanged { result ≡ true → map (shown_text options.now) (fields_of fields.now) ≡ fields_of fields.now }
+    ensures plain { result ≡ true → list_all (list_all is_plain_byte) (fields_of fields.now) ≡ true }
+{
+    // Bytes of ASCII are a text. Testing that again would cost as much as the other tests.
+    let bytes = fields.as_byte_record().as_slice();
+    !options.is_markdown
+        && is_plain(bytes)
+        && is_visible(unsafe { str::from_utf8_unchecked(bytes) })
+}
+
+// Whether each field of a record is shown unchanged, one after another.
+fn each_stands(options: &Options, fields: &StringRecord) -> bool
     ensures { result ≡ true → map (shown_text options.now) (fields_of fields.now) ≡ fields_of fields.now }
 {
     for place in 0..fields.len() {
@@ -80,6 +97,13 @@ pub(crate) fn all_stand(options: &Options, fields: &StringRecord) -> bool
         }
     }
     true
+}
+
+/// Whether each field of a record is shown unchanged.
+pub(crate) fn all_stand(options: &Options, fields: &StringRecord) -> bool
+    ensures { result ≡ true → map (shown_text options.now) (fields_of fields.now) ≡ fields_of fields.now }
+{
+    is_plain_record(options, fields) || each_stands(options, fields)
 }
 
 /// A record of the texts that are shown of a record's fields.

@@ -1,10 +1,13 @@
 //! The rows of a table, each of which may come after others are drawn.
 
 ghost use Rattle.std.specs.Cow.{cow_str_bytes};
-ghost use Rattle.std.specs.Prelude.{◌≡◌, ◌++◌, ◌∷◌, [], List, length, map, string_bytes, Err, IfOk, OnErr, OnOk};
+ghost use Rattle.std.specs.Prelude.{◌≡◌, ◌<◌, ◌≤◌, ◌++◌, ◌∷◌, [], List, length, map, take, string_bytes, true, Err, IfOk, IfSome, OnErr, OnOk};
+ghost use Rattle.std.specs.List.{list_all};
 ghost use Rattle.csv.specs.Records.{fields_of};
-ghost use Rattle.pg_layout.specs.Text.{Text};
+ghost use Rattle.pg_layout.specs.Text.{Text, is_plain_byte, lines_of};
+ghost use Rattle.pg_fit.specs.Rows.{row_height};
 ghost use Rattle.ruled_table.specs.Appended.{HasAppended, IsOver};
+ghost use Rattle.ruled_table.specs.Columns.{drawn_at};
 ghost use Rattle.ruled_table.specs.Faults.{Tells};
 ghost use Rattle.ruled_table.specs.Layouts.{start_fault, whole_text};
 ghost use Rattle.ruled_table.specs.Plans.{Plan, plan_in};
@@ -15,12 +18,12 @@ ghost use Rattle.ruled_table.specs.declared.fault.ViewFault.{ViewFault};
 ghost use Rattle.ruled_table.specs.declared.fault.ViewFault.TheVariants.{Memory};
 ghost use Rattle.ruled_table.specs.declared.options.Options.{Options};
 
-use crate::columns::drawn_at;
+use crate::columns::{drawn_at, field_at};
 use crate::fault::ViewFault;
 use crate::layout::Layout;
 use crate::options::Options;
 use crate::row_lines::RowLines;
-use crate::rows::{shown_text, stands};
+use crate::rows::{is_plain_record, shown_text, stands};
 use crate::widths::{lent_within, room_of};
 use csv::StringRecord;
 use pg_layout::{ConstantDimension, get_text_width};
@@ -89,6 +92,43 @@ fn cells_shown<'a>(
     Ok(cells)
 }
 
+// The most columns of a table whose plain rows take no memory.
+const FEW: usize = 16;
+
+// The text that is shown of a plain record in a column, if it has room there.
+fn plain_cell<'a>(room: usize, fields: &'a StringRecord, place: Option<usize>) -> Option<&'a str>
+    ensures cell { (options : Options) → map (shown_text options) (fields_of fields.now) ≡ fields_of fields.now → list_all (list_all is_plain_byte) (fields_of fields.now) ≡ true
+        → IfSome result (λ cell. cell.now ≡ spec.text_within options.bounds.overflow room (shown_text options (drawn_at (fields_of fields.now) place))) }
+    ensures single { list_all (list_all is_plain_byte) (fields_of fields.now) ≡ true → IfSome result (λ cell. length (lines_of cell.now) ≡ 1) }
+{
+    let text = field_at(fields, place?);
+    if text.len() <= room { Some(text) } else { None }
+}
+
+// Writes the texts that are shown of a row to the first of these cells, and says whether it is plain and each has room.
+fn fill_plain<'a>(
+    options: &Options,
+    places: &[Option<usize>],
+    widths: &ConstantDimension,
+    fields: &'a StringRecord,
+    cells: &mut [&'a str],
+) -> bool
+    ensures few { result ≡ true → length places.now ≤ length cells.new }
+    ensures cells { result ≡ true → map (λ cell. cell.now) (take (length places.now) cells.new) ≡ spec.row_within options.now.bounds.overflow (spec.widths_in widths.now) (shown_row options.now places.now (fields_of fields.now)) }
+    ensures single { result ≡ true → row_height (map (λ cell. cell.now) (take (length places.now) cells.new)) ≡ 1 }
+{
+    if places.is_empty() || places.len() > cells.len() || !is_plain_record(options, fields) {
+        return false;
+    }
+    for (column, place) in places.iter().enumerate() {
+        match plain_cell(room_of(widths, column), fields, *place) {
+            Some(cell) => cells[column] = cell,
+            None => return false,
+        }
+    }
+    true
+}
+
 impl<'a> TableRows<'a> {
     /// A table before its first row.
     ///
@@ -111,6 +151,26 @@ impl<'a> TableRows<'a> {
         })
     }
 
+    // Appends the lines of a row.
+    fn push_row(&mut self, fields: &StringRecord, buf: &mut String) -> Result<(), ViewFault>
+        ensures lines { (options : Options) (plan : Plan) (rows : List (List Text)) → HasAppended options plan rows self.old
+            → OnOk result (GrowsTo (begun_text options plan rows) (begun_text options plan (rows ++ fields_of fields.now ∷ [])) (string_bytes buf.old) (string_bytes buf.new)) }
+        ensures after { (options : Options) (plan : Plan) (rows : List (List Text)) → HasAppended options plan rows self.old
+            → OnOk result (HasAppended options plan (rows ++ fields_of fields.now ∷ []) self.new) }
+        ensures room { (options : Options) (plan : Plan) (rows : List (List Text)) → HasAppended options plan rows self.old → TellsRoom (HasNoRoom options plan rows (fields_of fields.now)) result }
+        ensures failed { OnErr result (string_bytes buf.new ≡ string_bytes buf.old) }
+        ensures over { self.new.is_over ≡ self.old.is_over }
+    {
+        let layout = self.layout;
+        let (places, widths) = (&layout.places, &layout.widths);
+        let mut plain = [""; FEW];
+        if fill_plain(self.options, places, widths, fields, &mut plain) {
+            return self.rows.push_lent(&plain[..places.len()], buf);
+        }
+        let cells = cells_shown(self.alloc, self.options, places, widths, fields)?;
+        self.rows.push(cells, buf)
+    }
+
     /// Appends the lines of a row, each with a line feed after it.
     ///
     /// `ViewFault::Totals` means that its lines can't be counted below those above it.
@@ -128,10 +188,7 @@ impl<'a> TableRows<'a> {
             return Err(ViewFault::Memory);
         }
         self.is_over = true;
-        let layout = self.layout;
-        let (places, widths) = (&layout.places, &layout.widths);
-        let cells = cells_shown(self.alloc, self.options, places, widths, fields)?;
-        self.rows.push(cells, buf)?;
+        self.push_row(fields, buf)?;
         self.is_over = false;
         Ok(())
     }

@@ -4,7 +4,7 @@ use Rattle.csv.specs.Records.{fields_of}
 use Rattle.pg_layout.specs.Text.{Text}
 use Rattle.ruled_table.specs.Shown.{shown_text}
 use Rattle.ruled_table.proofs.LentTexts.{same_more}
-use Rattle.ruled_table.proofs.rows.all_stand.Goals as goal
+use Rattle.ruled_table.proofs.rows.each_stands.Goals as goal
 
 pub loop-place-preserved : goal.loop-place-preserved
 loop-place-preserved c =
