@@ -19,3 +19,4 @@ pub mod FittedTables
 pub mod Html
 pub mod Rearranged
 pub mod Setters
+mod Rulesets

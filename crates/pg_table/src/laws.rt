@@ -8,6 +8,7 @@ ghost use Rattle.pg_table.specs.WideningLaws.{CellsHaveRoom, NoColumnShrinks, No
 /// At its natural sizes a table has room for each of its shown cells: only spans and totals can
 /// misfit. If the totals fit, each natural size does. Without spans each column is as wide as its
 /// widest cell, and each row as high as its highest one.
+#[tactic(auto, using(crate::proofs::Rulesets::room_of_naturals))]
 pub fn natural_tables_have_room()
     ensures room { NaturalTablesHaveRoom }
     ensures sizes { TotalsHoldSizes }
@@ -18,6 +19,7 @@ pub fn natural_tables_have_room()
 /// widest cell of one column, or wider than its widest cell. If no cell lacks room, each stays
 /// unchanged. A cell is filled exactly if no other cell of as many or more columns takes one of its
 /// columns.
+#[tactic(auto, using(crate::proofs::Rulesets::laws_of_widening))]
 pub fn columns_are_widened_as_needed()
     ensures room { CellsHaveRoom }
     ensures least { NoColumnShrinks }
@@ -36,11 +38,13 @@ pub fn looks_are_narrow()
 
 /// At any widths and its natural heights, which [`crate::heights_for`] returns, a table that fits
 /// shows each line of its texts: only a misfit keeps it from being printed whole.
+#[tactic(auto, using(crate::proofs::NaturalRoom::natural_heights_show_all))]
 pub fn natural_heights_show_all()
     ensures { NaturalHeightsShowAll }
 {}
 
 /// No text of a cell can begin or end a tag of HTML, or an attribute.
+#[tactic(auto, using(crate::proofs::Html::texts_open_no_tag))]
 pub fn texts_open_no_tag()
     ensures { TextsOpenNoTag }
 {}

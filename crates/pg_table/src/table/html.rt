@@ -30,6 +30,7 @@ impl<T: AsStr + Drop, A: Allocator> Table<T, A> {
 
 // Appends the whole table.
 
+#[tactic(auto, using(crate::proofs::Html::one_more))]
 fn push_table<R: PeekableRecords + ExactRecords, A: Allocator, B: Allocator>(
     records: &R,
     config: &SpannedConfig<A>,
