@@ -25,17 +25,12 @@ mod telling;
 mod texts;
 
 /// The tables whose texts are compared.
-#[derive(Drop)]
+#[derive(Clone, Copy)]
 pub(crate) struct SpeedCase {
-    alloc: Global,
+    pub(crate) alloc: Global,
 }
 
 impl SpeedCase {
-    /// No table yet.
-    pub(crate) fn new(alloc: Global) -> SpeedCase {
-        SpeedCase { alloc }
-    }
-
     // Builds the table of this name once, and compares its text.
     fn build(
         &self,

@@ -64,16 +64,13 @@ impl Subject {
     // Follows the lines of its part.
     fn follow(self, alloc: Global, lines: &[NumberedLine], report: &mut Report) {
         match self {
-            Subject::Values => {
-                let checked = check_values(alloc, report);
-                report.take(0, "values", checked);
-            }
+            Subject::Values => check_values(alloc, report),
             Subject::Settings => follow_settings(alloc, lines, report),
-            Subject::Texts => follow_all(&mut TextCase::new(alloc), lines, report),
-            Subject::Tables => follow_tables(alloc, lines, report),
-            Subject::Streams => follow_all(&mut StreamCase::new(alloc), lines, report),
-            Subject::Scripts => follow_all(&mut ScriptCase::new(alloc), lines, report),
-            Subject::Speed => follow_all(&mut SpeedCase::new(alloc), lines, report),
+            Subject::Texts => follow_all(Ok(TextCase::new(alloc)), lines, report),
+            Subject::Tables => follow_all(TableCase::new(alloc, "", 0), lines, report),
+            Subject::Streams => follow_all(StreamCase::new(alloc, "", 0), lines, report),
+            Subject::Scripts => follow_all(Ok(ScriptCase::new(alloc)), lines, report),
+            Subject::Speed => follow_all(Ok(SpeedCase { alloc }), lines, report),
         }
     }
 }
@@ -81,15 +78,7 @@ impl Subject {
 // Follows the lines on configurations, whose memory is refused now and then.
 fn follow_settings(alloc: Global, lines: &[NumberedLine], report: &mut Report) {
     let memory = Refusing::only(alloc, u64::MAX);
-    let mut case = SettingsCase::new(alloc, &memory);
-    follow_all(&mut case, lines, report);
-}
-
-// Follows the lines on tables in memory.
-fn follow_tables(alloc: Global, lines: &[NumberedLine], report: &mut Report) {
-    let mut case = TableCase::new(alloc);
-    follow_all(&mut case, lines, report);
-    drop(case);
+    follow_all(SettingsCase::new(alloc, &memory, ""), lines, report);
 }
 
 /// The lines on a subject.

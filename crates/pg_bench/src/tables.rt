@@ -98,7 +98,7 @@ pub(crate) mod case;
 mod compact;
 mod drawer;
 mod drawing;
-mod grid;
+pub(crate) mod grid;
 pub(crate) mod refusal;
 mod refused;
 mod refused_calls;

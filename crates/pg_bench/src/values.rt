@@ -11,7 +11,6 @@ pub(crate) mod pushed;
 pub(crate) mod scripts;
 pub(crate) mod texts;
 
-use crate::fault::CaseFault;
 use pg_testing::report::Report;
 use std::alloc::Global;
 use std::fmt::Debug;
@@ -52,15 +51,20 @@ impl<'r> Fact<'r> {
 }
 
 /// All facts.
-pub(crate) fn check_values(alloc: Global, report: &mut Report) -> Result<(), CaseFault> {
-    texts::check_texts(alloc, report);
-    colors::check_colors(alloc, report)?;
-    places::check_places(alloc, report)?;
-    pushed::check_pushed(alloc, report)?;
-    given::check_given(alloc, report)?;
+pub(crate) fn check_values(alloc: Global, report: &mut Report) {
+    texts::check_texts(report);
+    colors::check_colors(alloc, report);
+    let checked = places::check_places(alloc, report);
+    report.take(0, "places", checked);
+    let checked = pushed::check_pushed(alloc, report);
+    report.take(0, "rows that are pushed", checked);
+    let checked = given::check_given(alloc, report);
+    report.take(0, "rows that are given", checked);
     let checked = calls::check_calls(alloc, report);
     report.take(0, "calls of tables", checked);
     failing::check_failing(alloc, report);
-    endings::check_endings(alloc, report)?;
-    scripts::check_scripts(alloc, report)
+    let checked = endings::check_endings(alloc, report);
+    report.take(0, "endings", checked);
+    let checked = scripts::check_scripts(alloc, report);
+    report.take(0, "scripts", checked);
 }

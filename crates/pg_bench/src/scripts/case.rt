@@ -54,7 +54,7 @@ impl<'a> Script<'a> {
     // Takes what follows a mark.
     fn take(&mut self, alloc: Global, mark: &str, text: &'a str) -> Result<(), CaseFault> {
         match mark {
-            ">" => Ok(push_line(&mut self.text, text)?),
+            ">" => push_line(&mut self.text, text).map_err(CaseFault::from),
             "=" => self.take_answer(alloc, 0, text),
             "!" => {
                 let (status, line) = text.split_once(' ').unwrap_or((text, ""));
@@ -79,7 +79,7 @@ impl<'a> Script<'a> {
     fn take_answer(&mut self, alloc: Global, status: u8, line: &str) -> Result<(), CaseFault> {
         match &mut self.answer {
             Some(answer) if answer.status == 0 && status == 0 => {
-                Ok(push_line(&mut answer.text, line)?)
+                push_line(&mut answer.text, line).map_err(CaseFault::from)
             }
             Some(_) => Err(CaseFault::Unknown),
             None => {
@@ -192,10 +192,10 @@ impl<'a> Case<'a> for ScriptCase<'a> {
         match mark {
             "" | "#" => Ok(()),
             ":" => {
-                self.run(report)?;
+                let run = self.run(report);
                 self.section = text;
                 self.common = Script::new(self.alloc, number);
-                Ok(())
+                run
             }
             "-" | "+" => {
                 if self.own.is_some() {

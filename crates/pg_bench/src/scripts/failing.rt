@@ -5,14 +5,6 @@ use pg_testing::ledger::Rule;
 use pg_testing::streams::PIECE;
 use pg_testing::trial::{Outcome, Trial};
 
-/// The first failure for which a run doesn't end as expected: calls of this kind fail, and the first of
-/// them is that of this number.
-#[derive(Debug, Clone, Copy)]
-pub(crate) struct Slip {
-    kind: Kind,
-    number: u64,
-}
-
 /// A run whose calls of a kind fail in turn.
 #[derive(Clone, Copy)]
 struct FailingRun<'c> {
@@ -20,14 +12,14 @@ struct FailingRun<'c> {
     kind: Kind,
 }
 
-/// Makes a run while each call of each kind fails in turn, alone and with all behind it, and returns the first
-/// slip.
-pub(crate) fn slip_of(given: Given<'_>) -> Option<Slip> {
+/// Makes a run while each call of each kind fails in turn, alone and with all behind it. Returns the first failure for
+/// which it doesn't end as expected: the kind of the calls that fail, and the number of the first of them.
+pub(crate) fn slip_of(given: Given<'_>) -> Option<(Kind, u64)> {
     for kind in [Kind::Memory, Kind::Read, Kind::Write, Kind::Tell] {
         let mut failing = FailingRun { given, kind };
         match failing.failures() {
             Ok(calls) if failing.are_enough(calls) => {}
-            Ok(number) | Err(number) => return Some(Slip { kind, number }),
+            Ok(number) | Err(number) => return Some((kind, number)),
         }
     }
     None

@@ -9,25 +9,21 @@ use pg_layout::{Borders, Position};
 
 /// Writes the places that have a glyph, as `top=-`.
 pub(crate) fn write_borders(borders: &Borders<char>, answer: &mut Answer) {
-    for (name, glyph) in [
-        ("top", borders.top),
-        ("top_left", borders.top_left),
-        ("top_right", borders.top_right),
-        ("top_intersection", borders.top_intersection),
-        ("bottom", borders.bottom),
-        ("bottom_left", borders.bottom_left),
-        ("bottom_right", borders.bottom_right),
-        ("bottom_intersection", borders.bottom_intersection),
-        ("horizontal", borders.horizontal),
-        ("left_intersection", borders.left_intersection),
-        ("right_intersection", borders.right_intersection),
-        ("intersection", borders.intersection),
-        ("left", borders.left),
-        ("right", borders.right),
-        ("vertical", borders.vertical),
-    ] {
-        answer.push_named(name, glyph);
-    }
+    answer.push_named("top", borders.top);
+    answer.push_named("top_left", borders.top_left);
+    answer.push_named("top_right", borders.top_right);
+    answer.push_named("top_intersection", borders.top_intersection);
+    answer.push_named("bottom", borders.bottom);
+    answer.push_named("bottom_left", borders.bottom_left);
+    answer.push_named("bottom_right", borders.bottom_right);
+    answer.push_named("bottom_intersection", borders.bottom_intersection);
+    answer.push_named("horizontal", borders.horizontal);
+    answer.push_named("left_intersection", borders.left_intersection);
+    answer.push_named("right_intersection", borders.right_intersection);
+    answer.push_named("intersection", borders.intersection);
+    answer.push_named("left", borders.left);
+    answer.push_named("right", borders.right);
+    answer.push_named("vertical", borders.vertical);
 }
 
 /// Writes what is returned of a crossing in a table of so many rows and columns.

@@ -1,29 +1,20 @@
 //! What lines set in a configuration, and what they ask it.
 
-use crate::case::Case;
+use crate::case::{Case, Wrong};
 use crate::fault::CaseFault;
 use crate::settings::answer::Answer;
 use crate::settings::memory::{Config, Memory};
 use crate::settings::question::write_answers;
 use pg_config::SpannedConfig;
 use pg_layout::{Colors, ColorsMap};
-use pg_testing::refusing::Refusing;
 use pg_testing::report::Report;
 use pg_testing::settings::{Words, apply, set_cell_color};
 use pg_testing::{Line, LineFault};
-use std::alloc::Global;
+use std::alloc::{AllocError, Global};
+use std::mem;
 
 /// More requests for memory than a setting makes.
 const MANY: u64 = 1000;
-
-/// What is wrong with a setting that is refused memory.
-#[derive(Debug, Clone, Copy)]
-enum SettingMismatch {
-    /// It returns something else, or changes what is watched, where its request of this number is refused.
-    Request(u64),
-    /// Requests came without end.
-    Endless,
-}
 
 /// A configuration as the lines of a section set it, with the colours of cells.
 #[derive(Drop)]
@@ -32,7 +23,7 @@ pub(crate) struct SettingsCase<'a> {
     memory: Memory<'a>,
     // The name of the section, or the empty text before the first one.
     section: &'a str,
-    config: Config<'a>,
+    config: Box<Config<'a>>,
     colors: ColorsMap<Memory<'a>>,
     // The questions whose answers a refused setting must not change.
     watched: Vec<&'a str>,
@@ -41,17 +32,22 @@ pub(crate) struct SettingsCase<'a> {
 }
 
 impl<'a> SettingsCase<'a> {
-    /// No section.
-    pub(crate) fn new(alloc: Global, memory: &'a Refusing<Global>) -> SettingsCase<'a> {
-        SettingsCase {
+    /// No lines of a section.
+    pub(crate) fn new(
+        alloc: Global,
+        memory: Memory<'a>,
+        section: &'a str,
+    ) -> Result<SettingsCase<'a>, AllocError> {
+        let config = Box::new(alloc, SpannedConfig::new(memory))?;
+        Ok(SettingsCase {
             alloc,
             memory,
-            section: "",
-            config: SpannedConfig::new(memory),
+            section,
+            config,
             colors: ColorsMap::new(memory),
             watched: Vec::new(alloc),
             refused: 0,
-        }
+        })
     }
 
     // Follows a line that sets or asks something.
@@ -64,7 +60,7 @@ impl<'a> SettingsCase<'a> {
         let (word, rest) = line.split_once(' ').unwrap_or((line, ""));
         match word {
             "?" => self.ask(number, rest, report),
-            "watch" => Ok(self.watched.push(rest)?),
+            "watch" => self.watched.push(rest).map_err(CaseFault::from),
             "refused" => {
                 let is_refused = self.refused >= Words::new(rest).last_number()?;
                 report.compare((number, self.section), line, is_refused, true);
@@ -80,7 +76,7 @@ impl<'a> SettingsCase<'a> {
     fn apply(&mut self, line: &str) -> Result<(), LineFault> {
         match line.strip_prefix("color ") {
             Some(color) => set_cell_color(&mut self.colors, self.memory, color),
-            None => apply(&mut self.config, self.memory, line),
+            None => apply(&mut *self.config, self.memory, line),
         }
     }
 
@@ -97,15 +93,15 @@ impl<'a> SettingsCase<'a> {
             self.memory.refuse_only(request);
             let applied = self.apply(line);
             if !self.memory.has_refused() {
-                return Ok(applied?);
+                return applied.map_err(CaseFault::from);
             }
             self.refused = self.refused.saturating_add(1);
             if applied != Err(LineFault::Memory) || !self.still_answers(before) {
-                report.refuse(number, line, SettingMismatch::Request(request));
+                report.refuse(number, line, (Wrong::Request, request));
                 return Ok(());
             }
         }
-        report.refuse(number, line, SettingMismatch::Endless);
+        report.refuse(number, line, (Wrong::Requests, MANY));
         Ok(())
     }
 
@@ -158,7 +154,7 @@ impl<'a> SettingsCase<'a> {
                     _ => answer.fail(CaseFault::Unknown),
                 }
             }
-            None => write_answers(&self.config, self.alloc, question, answer),
+            None => write_answers(&*self.config, self.alloc, question, answer),
         }
     }
 
@@ -185,11 +181,8 @@ impl<'a> Case<'a> for SettingsCase<'a> {
             Line::Comment => Ok(()),
             Line::Section(section) => {
                 report.count_case();
-                self.section = section;
-                self.config = SpannedConfig::new(self.memory);
-                self.colors = ColorsMap::new(self.memory);
-                self.watched = Vec::new(self.alloc);
-                self.refused = 0;
+                let begun = SettingsCase::new(self.alloc, self.memory, section)?;
+                drop(mem::replace(self, begun));
                 Ok(())
             }
             Line::Words(line) if !self.section.is_empty() => self.follow_words(

@@ -1,175 +1,137 @@
-//! Tables of which more than the text is made anew in each build: their rows, or all their settings.
+//! Tables whose rows are made anew in each build.
 
 use crate::fault::CaseFault;
 use crate::speed::case::Grid;
-use crate::speed::settings::set;
+use crate::speed::measure::Append;
 use crate::speed::table::Table;
-use crate::speed::telling::tell;
-use crate::speed::texts::{SAME, records, sizes};
+use crate::speed::texts::SAME;
 use pg_config::SpannedConfig;
-use pg_grid::{IterGrid, PeekableGrid, TablePrinter};
-use pg_layout::{ColorsMap, ConstantDimension, NoColors, VecRecords};
-use pg_stream::{LiveStream, RowStream, SizedStream};
+use pg_grid::{IterGrid, TablePrinter};
+use pg_layout::{NoColors, VecRecords};
+use pg_stream::{LiveStream, RowStream, SizedStream, StreamFault};
 use std::alloc::{AllocError, Global};
 
-/// The text of a table whose rows are made anew, built so many times; empty where it isn't printed.
-pub(crate) fn text_of_rows(
-    alloc: Global,
-    grid: &Grid,
-    table: &Table,
-    config: &SpannedConfig,
-    times: usize,
-) -> Result<String, CaseFault> {
-    let mut text = String::new(alloc);
-    for _ in 0..times {
-        text.clear();
-        let pushed = match grid {
-            Grid::Rows => push_rows(alloc, table, config, &mut text),
-            Grid::Results => print_rows(alloc, table, config, &mut text),
-            Grid::Live => push_live(alloc, table, config, &mut text),
-            Grid::Lent => push_lent(alloc, table, config, &mut text),
-            Grid::Sized => push_sized(alloc, table, config, &mut text),
-            _ => print_vectors(alloc, grid, table, config, &mut text),
+/// A table whose rows are made anew in each build, and what prints it.
+#[derive(Clone, Copy)]
+pub(crate) struct NewRows<'t> {
+    pub(crate) alloc: Global,
+    pub(crate) grid: &'t Grid,
+    pub(crate) table: &'t Table,
+    pub(crate) config: &'t SpannedConfig,
+}
+
+impl Append for NewRows<'_> {
+    fn append(&self, text: &mut String) -> Result<(), CaseFault> {
+        let pushed = match self.grid {
+            Grid::Rows => self.push_rows(text),
+            Grid::Live => self.push_live(text),
+            Grid::Lent => self.push_lent(text),
+            Grid::Sized => self.push_sized(text),
+            Grid::Results => return self.print_results(text),
+            _ => return self.print_vectors(text),
         };
-        pushed?;
+        pushed.map_err(CaseFault::from)
     }
-    Ok(text)
 }
 
-// Appends all rows of a table, each of which is pushed.
-fn push_rows(
-    alloc: Global,
-    table: &Table,
-    config: &SpannedConfig,
-    text: &mut String,
-) -> Result<(), CaseFault> {
-    let mut stream = RowStream::new(alloc, config, table, &NoColors, table.columns, None)?;
-    for _ in 0..table.rows {
-        stream = stream.push(row_of(alloc, table)?, text)?;
+impl NewRows<'_> {
+    // A row.
+    fn row(&self) -> Result<Vec<&'static str>, AllocError> {
+        Ok(vec![in self.alloc; SAME; self.table.columns]?)
     }
-    Ok(stream.finish(text)?)
-}
 
-// Appends all rows of a table, which an iterator gives.
-fn print_rows(
-    alloc: Global,
-    table: &Table,
-    config: &SpannedConfig,
-    text: &mut String,
-) -> Result<(), CaseFault> {
-    let stream = RowStream::new(alloc, config, table, &NoColors, table.columns, None)?;
-    let mut rows = (0..table.rows).map(|_| row_of(alloc, table));
-    Ok(stream.print_results(&mut rows, text)?)
-}
-
-// Appends all rows of a table, each of which is shown at once.
-fn push_live(
-    alloc: Global,
-    table: &Table,
-    config: &SpannedConfig,
-    text: &mut String,
-) -> Result<(), CaseFault> {
-    let mut stream = LiveStream::new(alloc, config, table, &NoColors, table.columns)?;
-    for _ in 0..table.rows {
-        stream.push(row_of(alloc, table)?, text)?;
-    }
-    Ok(stream.finish(text)?)
-}
-
-// Appends all rows of a table, each of which is one row that is lent each time.
-fn push_lent(
-    alloc: Global,
-    table: &Table,
-    config: &SpannedConfig,
-    text: &mut String,
-) -> Result<(), CaseFault> {
-    let row = row_of(alloc, table)?;
-    let mut stream: LiveStream<'_, &str, Table, NoColors> = LiveStream::new(
-        alloc,
-        config,
-        table,
-        &NoColors,
-        table.columns,
-    )?;
-    for _ in 0..table.rows {
-        stream.push_lent(&row, text)?;
-    }
-    Ok(stream.finish(text)?)
-}
-
-// Appends all rows of a table, each of which brings its height.
-fn push_sized(
-    alloc: Global,
-    table: &Table,
-    config: &SpannedConfig,
-    text: &mut String,
-) -> Result<(), CaseFault> {
-    let mut stream = SizedStream::new(alloc, config, table, &NoColors, table.columns)?;
-    for _ in 0..table.rows {
-        stream.push(table.height, row_of(alloc, table)?, text)?;
-    }
-    Ok(stream.finish(text)?)
-}
-
-// A row of a table.
-fn row_of(alloc: Global, table: &Table) -> Result<Vec<&'static str>, AllocError> {
-    Ok(vec![in alloc; SAME; table.columns]?)
-}
-
-// Makes all rows of a table, and does with them what the grid says.
-fn print_vectors(
-    alloc: Global,
-    grid: &Grid,
-    table: &Table,
-    config: &SpannedConfig,
-    text: &mut String,
-) -> Result<(), CaseFault> {
-    let mut rows = Vec::new(alloc);
-    for _ in 0..table.rows {
-        rows.push(row_of(alloc, table)?)?;
-    }
-    match grid {
-        Grid::VectorsStreamed => {
-            let stream = RowStream::new(alloc, config, table, &NoColors, table.columns, None)?;
-            Ok(stream.print_vec(rows, text)?)
+    // Appends all rows, each of which is pushed.
+    fn push_rows(&self, text: &mut String) -> Result<(), StreamFault> {
+        let (table, columns) = (self.table, self.table.columns);
+        let mut stream = RowStream::new(self.alloc, self.config, table, &NoColors, columns, None)?;
+        for _ in 0..table.rows {
+            stream = stream.push(self.row()?, text)?;
         }
-        Grid::VectorsTested => {
-            let records = VecRecords::new(rows)?;
-            Ok(IterGrid::new(records, config, table, NoColors).fits()?)
-        }
-        Grid::VectorsPrinted => {
-            let records = VecRecords::new(rows)?;
-            let grid = IterGrid::new(records, config, table, NoColors);
-            Ok(grid.with_memory(alloc).print(text)?)
-        }
-        _ => Ok(()),
+        stream.finish(text)
     }
-}
 
-/// The text of a table as the looked-up grid prints it by its checked call, built so many times, and
-/// each time by settings and colours that are set anew.
-pub(crate) fn told(alloc: Global, table: &Table, times: usize) -> Result<String, CaseFault> {
-    let records = records(alloc, table)?;
-    let dimension = sizes(alloc, table)?;
-    let mut text = String::new(alloc);
-    for _ in 0..times {
-        text.clear();
-        push_told(alloc, table, &records, &dimension, &mut text)?;
+    // Appends all rows, each of which is shown at once.
+    fn push_live(&self, text: &mut String) -> Result<(), StreamFault> {
+        let (table, columns) = (self.table, self.table.columns);
+        let mut stream = LiveStream::new(self.alloc, self.config, table, &NoColors, columns)?;
+        for _ in 0..table.rows {
+            stream.push(self.row()?, text)?;
+        }
+        stream.finish(text)
     }
-    Ok(text)
-}
 
-// Appends a table by settings and colours that are set and dropped again.
-fn push_told(
-    alloc: Global,
-    table: &Table,
-    records: &VecRecords<String>,
-    dimension: &ConstantDimension,
-    text: &mut String,
-) -> Result<(), CaseFault> {
-    let mut config = SpannedConfig::new(alloc);
-    let mut colors = ColorsMap::new(alloc);
-    set(alloc, table, &mut config)?;
-    tell(alloc, table, &mut config, &mut colors)?;
-    Ok(PeekableGrid::new(records, &config, dimension, &colors).print(text)?)
+    // Appends all rows, each of which is one row that is lent each time.
+    fn push_lent(&self, text: &mut String) -> Result<(), StreamFault> {
+        let (table, columns) = (self.table, self.table.columns);
+        let row = self.row()?;
+        let mut stream: LiveStream<'_, &str, Table, NoColors> = LiveStream::new(
+            self.alloc,
+            self.config,
+            table,
+            &NoColors,
+            columns,
+        )?;
+        for _ in 0..table.rows {
+            stream.push_lent(&row, text)?;
+        }
+        stream.finish(text)
+    }
+
+    // Appends all rows, each of which brings its height.
+    fn push_sized(&self, text: &mut String) -> Result<(), StreamFault> {
+        let (table, columns) = (self.table, self.table.columns);
+        let mut stream = SizedStream::new(self.alloc, self.config, table, &NoColors, columns)?;
+        for _ in 0..table.rows {
+            stream.push(table.height, self.row()?, text)?;
+        }
+        stream.finish(text)
+    }
+
+    // Appends all rows, which an iterator gives.
+    fn print_results(&self, text: &mut String) -> Result<(), CaseFault> {
+        let (table, columns) = (self.table, self.table.columns);
+        let stream = RowStream::new(self.alloc, self.config, table, &NoColors, columns, None)?;
+        let mut rows = (0..table.rows).map(|_| self.row());
+        stream
+            .print_results(&mut rows, text)
+            .map_err(CaseFault::from)
+    }
+
+    // All rows.
+    fn rows(&self) -> Result<Vec<Vec<&'static str>>, AllocError> {
+        let mut rows = Vec::new(self.alloc);
+        for _ in 0..self.table.rows {
+            rows.push(self.row()?)?;
+        }
+        Ok(rows)
+    }
+
+    // Makes all rows, and does with them what the grid says.
+    fn print_vectors(&self, text: &mut String) -> Result<(), CaseFault> {
+        let (table, columns) = (self.table, self.table.columns);
+        let rows = self.rows()?;
+        match self.grid {
+            Grid::Vectors => Ok(()),
+            Grid::VectorsStreamed => {
+                let stream = RowStream::new(
+                    self.alloc,
+                    self.config,
+                    table,
+                    &NoColors,
+                    columns,
+                    None,
+                )?;
+                stream.print_vec(rows, text).map_err(CaseFault::from)
+            }
+            _ => {
+                let records = VecRecords::new(rows)?;
+                let grid = IterGrid::new(records, self.config, table, NoColors);
+                let grid = grid.with_memory(self.alloc);
+                match self.grid {
+                    Grid::VectorsTested => grid.fits().map_err(CaseFault::from),
+                    _ => grid.print(text).map_err(CaseFault::from),
+                }
+            }
+        }
+    }
 }

@@ -1,78 +1,74 @@
 //! Tables, built over and over into one buffer.
 
 use crate::fault::CaseFault;
-use crate::speed::anew::{text_of_rows, told};
+use crate::speed::anew::NewRows;
 use crate::speed::case::{Case, Grid};
 use crate::speed::made_records::MadeRecords;
 use crate::speed::settings::{colors, compact_settings, set};
 use crate::speed::table::Table;
+use crate::speed::telling::tell;
 use crate::speed::texts::{SAME, records, sizes};
 use pg_config::{CompactConfig, SpannedConfig};
 use pg_grid::{CompactGrid, IterGrid, PeekableGrid, TablePrinter};
-use pg_layout::{Colors, ConstantDimension, ExactRecords, NoColors, Records, VecRecords};
+use pg_layout::{
+    Colors, ColorsMap, ConstantDimension, ExactRecords, NoColors, Records, VecRecords,
+};
 use pg_picture::fits::compact_fits;
 use pg_table::NaturalTable;
 use std::alloc::Global;
 
+/// A table that each build prints by a call of its own.
+pub(crate) trait Append {
+    /// Appends the text of the table.
+    fn append(&self, text: &mut String) -> Result<(), CaseFault>;
+}
+
+/// A table whose texts and sizes are in memory.
+#[derive(Drop)]
+struct KeptTable<'t> {
+    alloc: Global,
+    grid: &'t Grid,
+    table: &'t Table,
+    config: &'t SpannedConfig,
+    records: VecRecords<String>,
+    dimension: ConstantDimension,
+    // The colours of cells, for grids that print them.
+    colors: ColorsMap,
+}
+
 /// The text of the table of a case, built so many times.
 pub(crate) fn text_of(alloc: Global, case: &Case, times: usize) -> Result<String, CaseFault> {
     let Case(_, grid, table) = case;
-    match grid {
-        Grid::Compact => compact_text(alloc, false, table, times),
-        Grid::CompactColored => compact_text(alloc, true, table, times),
-        Grid::Told => told(alloc, table, times),
-        _ => spanned_text(alloc, grid, table, times),
-    }
-}
-
-// The text of a table whose cells may span rows and columns, built so many times.
-fn spanned_text(
-    alloc: Global,
-    grid: &Grid,
-    table: &Table,
-    times: usize,
-) -> Result<String, CaseFault> {
     let mut config = SpannedConfig::new(alloc);
     set(alloc, table, &mut config)?;
     match grid {
-        Grid::IterMade => streamed_as_made(alloc, table, &config, times),
-        Grid::Peekable
-        | Grid::Colored
-        | Grid::Iter
-        | Grid::Checked
-        | Grid::Tested
-        | Grid::Natural => text_of_records(alloc, grid, table, &config, times),
-        _ => text_of_rows(alloc, grid, table, &config, times),
-    }
-}
-
-// The text of a table whose texts are in memory, printed so many times.
-fn text_of_records(
-    alloc: Global,
-    grid: &Grid,
-    table: &Table,
-    config: &SpannedConfig,
-    times: usize,
-) -> Result<String, CaseFault> {
-    let records = records(alloc, table)?;
-    let dimension = sizes(alloc, table)?;
-    match grid {
-        Grid::Natural => natural(alloc, &records, config, times),
-        Grid::Checked => checked(alloc, &records, &dimension, config, times),
-        Grid::Tested => tested(alloc, &records, &dimension, config, times),
-        Grid::Iter => {
-            let grid = IterGrid::new(&records, config, &dimension, NoColors);
+        Grid::IterMade => {
+            let records = MadeRecords {
+                text: SAME,
+                rows: table.rows,
+                columns: table.columns,
+            };
+            let grid = IterGrid::new(records, &config, table, NoColors);
             built(alloc, grid.with_memory(alloc), times)
         }
-        Grid::Colored => {
-            let colors = colors(alloc, table)?;
-            let grid = PeekableGrid::new(&records, config, &dimension, &colors);
-            built(alloc, &grid, times)
+        Grid::Rows
+        | Grid::Results
+        | Grid::Live
+        | Grid::Lent
+        | Grid::Sized
+        | Grid::Vectors
+        | Grid::VectorsStreamed
+        | Grid::VectorsTested
+        | Grid::VectorsPrinted => {
+            let rows = NewRows {
+                alloc,
+                grid,
+                table,
+                config: &config,
+            };
+            appended(alloc, &rows, times)
         }
-        _ => {
-            let grid = PeekableGrid::new(&records, config, &dimension, NoColors);
-            built(alloc, &grid, times)
-        }
+        _ => kept_table(alloc, grid, table, &config)?.text(times),
     }
 }
 
@@ -89,103 +85,107 @@ fn built<P: TablePrinter + Copy>(alloc: Global, grid: P, times: usize) -> Result
     Ok(text)
 }
 
-// The text of the looked-up grid by the call that tests the table each time.
-fn checked(
-    alloc: Global,
-    records: &VecRecords<String>,
-    dimension: &ConstantDimension,
-    config: &SpannedConfig,
-    times: usize,
-) -> Result<String, CaseFault> {
-    let grid = PeekableGrid::new(records, config, dimension, NoColors);
+// The text of a table, appended so many times to an empty buffer.
+fn appended<T: Append>(alloc: Global, table: &T, times: usize) -> Result<String, CaseFault> {
     let mut text = String::new(alloc);
     for _ in 0..times {
         text.clear();
-        grid.print(&mut text)?;
+        table.append(&mut text)?;
     }
     Ok(text)
 }
 
-// Tests a table so many times, and returns the empty text.
-fn tested(
+// A table with its texts and sizes.
+fn kept_table<'t>(
     alloc: Global,
-    records: &VecRecords<String>,
-    dimension: &ConstantDimension,
-    config: &SpannedConfig,
-    times: usize,
-) -> Result<String, CaseFault> {
-    let grid = PeekableGrid::new(records, config, dimension, NoColors);
-    for _ in 0..times {
-        grid.fits()?;
-    }
-    Ok(String::new(alloc))
-}
-
-// The text of the streaming grid from texts that are made as it asks for them.
-fn streamed_as_made(
-    alloc: Global,
-    table: &Table,
-    config: &SpannedConfig,
-    times: usize,
-) -> Result<String, CaseFault> {
-    let records = MadeRecords {
-        text: SAME,
-        rows: table.rows,
-        columns: table.columns,
-    };
-    let grid = IterGrid::new(records, config, table, NoColors);
-    built(alloc, grid.with_memory(alloc), times)
-}
-
-// The text of a table at its natural sizes, built so many times.
-fn natural(
-    alloc: Global,
-    records: &VecRecords<String>,
-    config: &SpannedConfig,
-    times: usize,
-) -> Result<String, CaseFault> {
-    let table = NaturalTable::new(records, config, &NoColors);
-    let mut text = String::new(alloc);
-    for _ in 0..times {
-        text.clear();
-        table.print(alloc, &mut text)?;
-    }
-    Ok(text)
-}
-
-// The text of a table of the compact grid, built so many times.
-fn compact_text(
-    alloc: Global,
-    is_colored: bool,
-    table: &Table,
-    times: usize,
-) -> Result<String, CaseFault> {
+    grid: &'t Grid,
+    table: &'t Table,
+    config: &'t SpannedConfig,
+) -> Result<KeptTable<'t>, CaseFault> {
     let records = records(alloc, table)?;
     let dimension = sizes(alloc, table)?;
-    let config = compact_settings(is_colored);
-    if is_colored {
-        let colors = colors(alloc, table)?;
-        return compact(alloc, &records, &dimension, &config, &colors, times);
-    }
-    compact(alloc, &records, &dimension, &config, &NoColors, times)
+    let colors = colors(alloc, table)?;
+    Ok(KeptTable {
+        alloc,
+        grid,
+        table,
+        config,
+        records,
+        dimension,
+        colors,
+    })
 }
 
-// The text of a table as the compact grid prints it, built so many times.
-fn compact<C: Colors>(
-    alloc: Global,
-    records: &VecRecords<String>,
-    dimension: &ConstantDimension,
-    config: &CompactConfig,
-    colors: &C,
-    times: usize,
-) -> Result<String, CaseFault> {
-    compact_fits(config, dimension, records.count_columns())?;
-    // Shows that there are no more rows than can be counted.
-    let _rows = records.count_rows();
-    let mut text = String::new(alloc);
-    for _ in 0..times {
-        text.clear();
-        CompactGrid::new(records, config, dimension, colors).build(&mut text)?;
+impl KeptTable<'_> {
+    // Its text, built so many times.
+    fn text(&self, times: usize) -> Result<String, CaseFault> {
+        let (records, dimension) = (&self.records, &self.dimension);
+        match self.grid {
+            Grid::Peekable => {
+                let grid = PeekableGrid::new(records, self.config, dimension, NoColors);
+                built(self.alloc, &grid, times)
+            }
+            Grid::Colored => {
+                let grid = PeekableGrid::new(records, self.config, dimension, &self.colors);
+                built(self.alloc, &grid, times)
+            }
+            Grid::Iter => {
+                let grid = IterGrid::new(records, self.config, dimension, NoColors);
+                built(self.alloc, grid.with_memory(self.alloc), times)
+            }
+            Grid::Compact => self.compact(&compact_settings(false), &NoColors, times),
+            Grid::CompactColored => self.compact(&compact_settings(true), &self.colors, times),
+            _ => appended(self.alloc, self, times),
+        }
     }
-    Ok(text)
+
+    // Its text as the compact grid prints it, built so many times after one test.
+    fn compact<C: Colors>(
+        &self,
+        config: &CompactConfig,
+        colors: &C,
+        times: usize,
+    ) -> Result<String, CaseFault> {
+        let records = &self.records;
+        compact_fits(config, &self.dimension, records.count_columns())?;
+        // Shows that there are no more rows than can be counted.
+        let _rows = records.count_rows();
+        let mut text = String::new(self.alloc);
+        for _ in 0..times {
+            text.clear();
+            CompactGrid::new(records, config, &self.dimension, colors).build(&mut text)?;
+        }
+        Ok(text)
+    }
+
+    // Appends the table by settings and colours that are set and dropped again.
+    fn append_told(&self, text: &mut String) -> Result<(), CaseFault> {
+        let mut config = SpannedConfig::new(self.alloc);
+        let mut colors = ColorsMap::new(self.alloc);
+        set(self.alloc, self.table, &mut config)?;
+        tell(self.alloc, self.table, &mut config, &mut colors)?;
+        let grid = PeekableGrid::new(&self.records, &config, &self.dimension, &colors);
+        grid.print(text).map_err(CaseFault::from)
+    }
+}
+
+impl Append for KeptTable<'_> {
+    // By the calls that test the table each time; the test alone appends nothing.
+    fn append(&self, text: &mut String) -> Result<(), CaseFault> {
+        let (records, config) = (&self.records, self.config);
+        match self.grid {
+            Grid::Natural => {
+                let table = NaturalTable::new(records, config, &NoColors);
+                table.print(self.alloc, text).map_err(CaseFault::from)
+            }
+            Grid::Told => self.append_told(text),
+            _ => {
+                let grid = PeekableGrid::new(records, config, &self.dimension, NoColors);
+                match self.grid {
+                    Grid::Tested => grid.fits().map_err(CaseFault::from),
+                    _ => grid.print(text).map_err(CaseFault::from),
+                }
+            }
+        }
+    }
 }

@@ -21,7 +21,7 @@ pub(crate) fn set(
     config: &mut SpannedConfig,
 ) -> Result<(), CaseFault> {
     apply_all(config, alloc, table.look)?;
-    Ok(span(config, table)?)
+    span(config, table).map_err(CaseFault::from)
 }
 
 // Lets cells span others.

@@ -19,9 +19,8 @@ pub(crate) fn tell(
 ) -> Result<(), AllocError> {
     match table.telling {
         Telling::Nothing => Ok(()),
-        Telling::Borders => tell_borders(config, table),
         Telling::RowsAfterCells => {
-            align_cells(config, table)?;
+            tell_cells(alloc, table, config, colors)?;
             align_rows(config, table.rows)
         }
         Telling::Crossings => {
@@ -52,7 +51,7 @@ fn number(telling: &Telling, told: usize, cells: usize) -> usize {
     }
 }
 
-// A colour, a padding and an alignment of each cell.
+// Sets what a table says of each cell.
 fn tell_cells(
     alloc: Global,
     table: &Table,
@@ -62,14 +61,32 @@ fn tell_cells(
     let cells = table.rows.saturating_mul(table.columns);
     for told in 0..cells {
         let pos = position(number(&table.telling, told, cells), table.columns);
-        color_cell(alloc, colors, pos)?;
-        style_cell(config, pos)?;
+        match table.telling {
+            Telling::Borders => frame_cell(config, pos),
+            Telling::RowsAfterCells => {
+                let cell = Entity::Cell(pos.row, pos.col);
+                config.set_alignment_horizontal(cell, AlignmentHorizontal::Right)
+            }
+            _ => style_cell(alloc, config, colors, pos),
+        }?;
     }
     Ok(())
 }
 
-// Two spaces beside a text, and the text left, in the middle or right.
-fn style_cell(config: &mut SpannedConfig, pos: Position) -> Result<(), AllocError> {
+// One glyph all round a cell.
+fn frame_cell(config: &mut SpannedConfig, pos: Position) -> Result<(), AllocError> {
+    let c = ['#', '*', '%'][(pos.row % 3 + pos.col % 3) % 3];
+    config.set_border(pos, Border::full(c, c, c, c, c, c, c, c))
+}
+
+// A colour, two spaces beside a text, and the text left, in the middle or right.
+fn style_cell(
+    alloc: Global,
+    config: &mut SpannedConfig,
+    colors: &mut ColorsMap,
+    pos: Position,
+) -> Result<(), AllocError> {
+    color_cell(alloc, colors, pos)?;
     let cell = Entity::Cell(pos.row, pos.col);
     let (left, right) = [(1, 1), (0, 2), (2, 0)][(pos.row % 3 + pos.col % 3) % 3];
     let none = Indent::spaced(0);
@@ -85,26 +102,6 @@ const ALIGNMENTS: [AlignmentHorizontal; 3] = [
     AlignmentHorizontal::Center,
     AlignmentHorizontal::Right,
 ];
-
-// A border of each cell: one glyph all round it.
-fn tell_borders(config: &mut SpannedConfig, table: &Table) -> Result<(), AllocError> {
-    for number in 0..table.rows.saturating_mul(table.columns) {
-        let pos = position(number, table.columns);
-        let c = ['#', '*', '%'][(pos.row % 3 + pos.col % 3) % 3];
-        config.set_border(pos, Border::full(c, c, c, c, c, c, c, c))?;
-    }
-    Ok(())
-}
-
-// All texts right, cell by cell.
-fn align_cells(config: &mut SpannedConfig, table: &Table) -> Result<(), AllocError> {
-    for number in 0..table.rows.saturating_mul(table.columns) {
-        let pos = position(number, table.columns);
-        let cell = Entity::Cell(pos.row, pos.col);
-        config.set_alignment_horizontal(cell, AlignmentHorizontal::Right)?;
-    }
-    Ok(())
-}
 
 // All texts in the middle, row by row.
 fn align_rows(config: &mut SpannedConfig, rows: usize) -> Result<(), AllocError> {

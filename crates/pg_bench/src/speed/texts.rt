@@ -22,7 +22,7 @@ pub(crate) fn records(alloc: Global, table: &Table) -> Result<VecRecords<String>
     for row in 0..table.rows {
         rows.push(texts_of_row(alloc, row, table)?)?;
     }
-    Ok(VecRecords::new(rows)?)
+    VecRecords::new(rows).map_err(CaseFault::from)
 }
 
 fn texts_of_row(alloc: Global, row: usize, table: &Table) -> Result<Vec<String>, AllocError> {

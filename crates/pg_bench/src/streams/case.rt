@@ -11,6 +11,7 @@ use pg_testing::report::Report;
 use pg_testing::settings::{Words, apply};
 use pg_testing::{Line, texts_of_row};
 use std::alloc::{AllocError, Global};
+use std::mem;
 
 /// What a step asks for.
 #[derive(Clone, Copy, PartialEq, Eq)]
@@ -59,10 +60,11 @@ pub(crate) struct StreamCase<'a> {
     pub(crate) section: &'a str,
     /// The number of the line at which it begins.
     pub(crate) line: usize,
-    pub(crate) config: SpannedConfig,
+    pub(crate) config: Box<SpannedConfig>,
     /// The sizes of columns and rows.
     pub(crate) dimension: ConstantDimension,
-    pub(crate) ways: Vec<Way>,
+    /// The names of the ways in which it is printed, and these.
+    pub(crate) ways: Vec<(&'a str, Way)>,
     /// The numbers of rows that are given, if there are any.
     pub(crate) hints: Vec<Option<usize>>,
     /// Whether memory is refused, too.
@@ -74,20 +76,25 @@ pub(crate) struct StreamCase<'a> {
 }
 
 impl<'a> StreamCase<'a> {
-    /// No section.
-    pub(crate) fn new(alloc: Global) -> StreamCase<'a> {
-        StreamCase {
+    /// No lines of a section, which begins at this line.
+    pub(crate) fn new(
+        alloc: Global,
+        section: &'a str,
+        line: usize,
+    ) -> Result<StreamCase<'a>, AllocError> {
+        let config = Box::new(alloc, SpannedConfig::new(alloc))?;
+        Ok(StreamCase {
             alloc,
-            section: "",
-            line: 0,
-            config: SpannedConfig::new(alloc),
+            section,
+            line,
+            config,
             dimension: ConstantDimension(Vec::new(alloc), Vec::new(alloc)),
             ways: Vec::new(alloc),
             hints: Vec::new(alloc),
             is_refused: false,
             steps: Vec::new(alloc),
             text: String::new(alloc),
-        }
+        })
     }
 
     // Takes the next step.
@@ -104,7 +111,7 @@ impl<'a> StreamCase<'a> {
             has_line: false,
             bytes: self.text.len(),
         };
-        Ok(self.steps.push(step)?)
+        self.steps.push(step).map_err(CaseFault::from)
     }
 
     // Follows a line that begins with a word.
@@ -125,7 +132,7 @@ impl<'a> StreamCase<'a> {
             "=" | "!" | "note" | "shown" | "height" | "last" | "pushed" => self.push_told(
                 word, rest,
             ),
-            _ => Ok(apply(&mut self.config, self.alloc, line)?),
+            _ => apply(&mut *self.config, self.alloc, line).map_err(CaseFault::from),
         }
     }
 
@@ -149,13 +156,11 @@ impl<'a> StreamCase<'a> {
         }
         Ok(())
     }
-}
 
-impl StreamCase<'_> {
     // Takes the ways in which the table is printed.
-    fn push_ways(&mut self, names: &str) -> Result<(), CaseFault> {
+    fn push_ways(&mut self, names: &'a str) -> Result<(), CaseFault> {
         for name in names.split(' ') {
-            self.ways.push(Way::named(name)?)?;
+            self.ways.push((name, Way::named(name)?))?;
         }
         Ok(())
     }
@@ -184,10 +189,9 @@ impl<'a> Case<'a> for StreamCase<'a> {
         match Line::of(line) {
             Line::Comment => Ok(()),
             Line::Section(section) => {
-                self.print(report)?;
-                *self = StreamCase::new(self.alloc);
-                self.section = section;
-                self.line = number;
+                self.print(report);
+                let begun = StreamCase::new(self.alloc, section, number)?;
+                drop(mem::replace(self, begun));
                 self.push_step(StepKind::Make, Vec::new(self.alloc))
             }
             Line::Row(row) => {
@@ -200,8 +204,9 @@ impl<'a> Case<'a> for StreamCase<'a> {
     }
 
     fn finish(&mut self, report: &mut Report) -> Result<(), CaseFault> {
-        self.print(report)?;
-        check_others(self.alloc, report)
+        self.print(report);
+        check_others(self.alloc, report);
+        Ok(())
     }
 }
 

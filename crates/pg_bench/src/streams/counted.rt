@@ -3,6 +3,8 @@
 ghost use Rattle.std.specs.Prelude.{None, Some, MatchOption};
 
 use crate::fault::CaseFault;
+use crate::streams::given::rows_of;
+use crate::streams::taken::narrow_row;
 use pg_config::SpannedConfig;
 use pg_grid::IterGrid;
 use pg_layout::{ConstantDimension, NoColors, Records, VecRecords};
@@ -120,12 +122,8 @@ fn is_drawn(
 /// spans, and the others aren't asked for.
 pub(crate) fn check_counted(alloc: Global, report: &mut Report) -> Result<(), CaseFault> {
     report.count_case();
-    let texts = ["ab", "ab", "ab"].as_slice().to_vec(alloc)?;
-    let mut rows = Vec::new(alloc);
-    rows.push(texts)?;
-    let records = VecRecords::new(rows)?;
-    let widths = [2, 2, 2].as_slice().to_vec(alloc)?;
-    let dimension = ConstantDimension(widths, [1].as_slice().to_vec(alloc)?);
+    let records = rows_of(alloc, "ab", 1)?;
+    let dimension = narrow_row(alloc)?;
     let config = SpannedConfig::new(alloc);
     let asked = Cell::new(0);
     let counted = Counted {

@@ -40,8 +40,8 @@ struct Alike {
     hint: Option<usize>,
 }
 
-// So many rows in memory, each of this cell three times.
-fn rows_of(
+/// So many rows in memory, each of this cell three times.
+pub(crate) fn rows_of(
     alloc: Global,
     cell: &'static str,
     count: usize,
@@ -95,7 +95,7 @@ fn check_long(
     let alike = Alike {
         cell,
         count: ROWS,
-        hint: if is_hinted { Some(ROWS) } else { None },
+        hint: is_hinted.then_some(ROWS),
     };
     let rows = rows_of(alloc, cell, ROWS)?;
     let memory = Refusing::from_on(alloc, 2);

@@ -75,7 +75,7 @@ impl<'a> StreamCase<'a> {
     ) -> Result<Stream<'m>, StreamFault> {
         RowStream::new(
             memory,
-            &self.config,
+            &*self.config,
             &self.dimension,
             &NoColors,
             self.columns(),
@@ -91,11 +91,12 @@ impl<'a> StreamCase<'a> {
         memory: Memory<'m>,
         buf: &mut Buffer<'m>,
     ) -> Result<(), RowsFault<u8>> {
-        if way == Way::PrintResults {
+        if matches!(way, Way::PrintResults) {
             let mut items = self.items(memory)?.into_iter();
             return self.stream(memory, hint)?.print_results(&mut items, buf);
         }
-        Ok(self.printed_rows(way, hint, memory, buf)?)
+        self.printed_rows(way, hint, memory, buf)
+            .map_err(RowsFault::from)
     }
 
     // What a call returns that prints all rows, of which each is there.
@@ -108,7 +109,7 @@ impl<'a> StreamCase<'a> {
     ) -> Result<(), StreamFault> {
         let rows = self.rows(memory)?;
         let stream = self.stream(memory, hint)?;
-        if way == Way::PrintVec {
+        if matches!(way, Way::PrintVec) {
             return stream.print_vec(rows, buf);
         }
         stream.print_all(rows.into_iter(), buf)
@@ -160,7 +161,7 @@ fn push<'m>(
     step: &Step<'m>,
     buf: &mut Buffer<'m>,
 ) -> Result<Stream<'m>, StreamFault> {
-    if way == Way::PushFrom {
+    if matches!(way, Way::PushFrom) {
         return stream.push_from(memory, step.cells.iter().copied(), buf);
     }
     let cells = step.cells.as_slice().to_vec(memory)?;

@@ -33,7 +33,7 @@ impl<'a> StreamCase<'a> {
         watch.goes(0, buf);
         for (number, step) in self.steps.iter().enumerate() {
             if step.kind == StepKind::Row {
-                let is_lent = way == Way::Lent && !step.is_pushed;
+                let is_lent = matches!(way, Way::Lent) && !step.is_pushed;
                 let shown = stream.show(self.alloc, is_lent, step, buf);
                 watch.ends(number, shown, buf);
             }
@@ -43,8 +43,8 @@ impl<'a> StreamCase<'a> {
 
     // Such a stream before its first row.
     fn shown<'m>(&'m self, way: Way, memory: Memory<'m>) -> Result<Stream<'m>, StreamFault> {
-        let (config, dimension, columns) = (&self.config, &self.dimension, self.columns());
-        if way == Way::Sized {
+        let (config, dimension, columns) = (&*self.config, &self.dimension, self.columns());
+        if matches!(way, Way::Sized) {
             let made: Result<Sized<'m>, StreamFault> = SizedStream::new(
                 memory, config, dimension, &NoColors, columns,
             );

@@ -1,7 +1,8 @@
 //! Printers of rows.
 
+use crate::case::Wrong;
 use crate::streams::case::{Step, StepKind, StreamCase};
-use crate::streams::watch::{Buffer, Memory, StreamMismatch, Watch};
+use crate::streams::watch::{Buffer, Memory, Watch};
 use crate::streams::way::Way;
 use pg_layout::{ConstantDimension, NoColors};
 use pg_stream::{RowFault, RowPrinter, StreamFault, printer_fits};
@@ -22,7 +23,7 @@ impl<'a> StreamCase<'a> {
         let made = self.printer(way, hint, watch.memory);
         let requests = watch.memory.requests();
         if requests != 1 && (made.is_ok() || watch.memory.has_refused()) {
-            watch.take(StreamMismatch::Requests(requests));
+            watch.take(Wrong::Requests, requests as usize);
         }
         let mut printer = match made {
             Ok(printer) => printer,
@@ -59,12 +60,14 @@ impl<'a> StreamCase<'a> {
         hint: Option<usize>,
         memory: Memory<'m>,
     ) -> Result<Printer<'m>, StreamFault> {
-        let (config, dimension, columns) = (&self.config, &self.dimension, self.columns());
-        if way == Way::Printer {
+        let (config, dimension, columns) = (&*self.config, &self.dimension, self.columns());
+        if matches!(way, Way::Printer) {
             return RowPrinter::try_new(memory, config, dimension, &NoColors, columns, hint);
         }
         printer_fits(config, dimension, &NoColors, columns, hint)?;
-        Ok(RowPrinter::new(memory, config, dimension, &NoColors, columns, hint)?)
+        RowPrinter::new(memory, config, dimension, &NoColors, columns, hint).map_err(
+            StreamFault::from,
+        )
     }
 
     // Prints a row, if it fits.
@@ -78,7 +81,7 @@ impl<'a> StreamCase<'a> {
         let Ok(cells) = step.cells.as_slice().to_vec(self.alloc) else {
             return Err(RowFault::Memory);
         };
-        if way == Way::Printer {
+        if matches!(way, Way::Printer) {
             return printer.try_row(cells, step.is_last, buf);
         }
         if !printer.fits(&cells, step.is_last) {
@@ -98,10 +101,10 @@ impl<'a> StreamCase<'a> {
             }
         }
         if printer.rows() == 0 {
-            return Ok(printer.finish(buf)?);
+            return printer.finish(buf).map_err(StreamFault::from);
         }
         if printer.is_ended() {
-            return Ok(printer.finish(buf)?);
+            return printer.finish(buf).map_err(StreamFault::from);
         }
         printer.close(buf)
     }
@@ -119,7 +122,7 @@ impl<'a> StreamCase<'a> {
         let shown = printer.shows_all(&step.cells, step.is_last);
         match format!(in self.alloc; "{shown:?}") {
             Ok(words) if words.as_str() == expected => {}
-            _ => watch.take(StreamMismatch::Answer(number)),
+            _ => watch.take(Wrong::Answer, number),
         }
     }
 
@@ -127,7 +130,7 @@ impl<'a> StreamCase<'a> {
     fn see_note<'m>(&'m self, number: usize, printer: &Printer<'m>, watch: &mut Watch<'m>) {
         match note_of(self.alloc, printer) {
             Ok(note) => watch.note(number, &note),
-            Err(_) => watch.take(StreamMismatch::Note(number)),
+            Err(_) => watch.take(Wrong::Note, number),
         }
     }
 }

@@ -1,17 +1,18 @@
 //! How a table is printed in each of its ways.
 
+use crate::case::{Mismatch, Wrong};
 use crate::fault::CaseFault;
 use crate::streams::case::{StepKind, StreamCase};
 use crate::streams::counted::check_counted;
 use crate::streams::given::check_given;
 use crate::streams::taken::check_taken;
 use crate::streams::values::check_values;
-use crate::streams::watch::{OLD, StreamMismatch, Watch};
+use crate::streams::watch::{OLD, Watch};
 use crate::streams::way::Way;
 use pg_testing::refusing::Refusing;
 use pg_testing::report::Report;
 use pg_testing::trial::{Outcome, Trial};
-use std::alloc::{AllocError, Global};
+use std::alloc::Global;
 
 /// A table that is printed in a way while each request for memory is refused in turn.
 #[derive(Clone, Copy)]
@@ -20,20 +21,17 @@ struct RefusedWay<'c, 'a> {
     way: Way,
     hint: Option<usize>,
     // What is wrong, once something is.
-    mismatch: Option<StreamMismatch>,
+    mismatch: Option<Mismatch>,
 }
 
 impl Trial for RefusedWay<'_, '_> {
     fn outcome(&mut self, number: u64) -> Outcome {
         let memory = Refusing::only(self.case.alloc, u64::MAX);
-        match self.case.mismatch(self.way, self.hint, &memory, number) {
-            Ok(None) if memory.has_refused() => Outcome::Failed,
-            Ok(None) => Outcome::Whole,
-            Ok(mismatch) => {
-                self.mismatch = mismatch;
-                Outcome::Wrong
-            }
-            Err(_) => Outcome::Wrong,
+        self.mismatch = self.case.mismatch(self.way, self.hint, &memory, number);
+        match self.mismatch {
+            None if memory.has_refused() => Outcome::Failed,
+            None => Outcome::Whole,
+            Some(_) => Outcome::Wrong,
         }
     }
 }
@@ -50,49 +48,38 @@ impl StreamCase<'_> {
     }
 
     /// Prints the table in all ways. Before the first section there is none.
-    pub(crate) fn print(&self, report: &mut Report) -> Result<(), CaseFault> {
+    pub(crate) fn print(&self, report: &mut Report) {
         let Some(last) = self.steps.last() else {
-            return Ok(());
+            return;
         };
         report.count_case();
-        if last.kind != StepKind::Finish && last.kind != StepKind::Close {
-            report.refuse(self.line, self.section, CaseFault::Unended);
-            return Ok(());
+        if !matches!(last.kind, StepKind::Finish | StepKind::Close) {
+            return report.refuse(self.line, self.section, CaseFault::Unended);
         }
-        for way in &self.ways {
-            if self.hints.is_empty() {
-                self.print_by(*way, None, report)?;
-            }
-            for hint in &self.hints {
-                self.print_by(*way, *hint, report)?;
+        let hints = match self.hints.as_slice() {
+            [] => &[None],
+            hints => hints,
+        };
+        for (name, way) in &self.ways {
+            for hint in hints {
+                self.print_by(name, *way, *hint, report);
             }
         }
-        Ok(())
     }
 
     // Prints the table in this way, with memory, and where a line says so without it.
-    fn print_by(
-        &self,
-        way: Way,
-        hint: Option<usize>,
-        report: &mut Report,
-    ) -> Result<(), AllocError> {
+    fn print_by(&self, name: &str, way: Way, hint: Option<usize>, report: &mut Report) {
         let place = (self.line, self.section);
         let memory = Refusing::only(self.alloc, u64::MAX);
-        report.compare(
-            place,
-            way.name(),
-            self.mismatch(way, hint, &memory, u64::MAX)?,
-            None,
-        );
+        let mismatch = (&*self).mismatch(way, hint, &memory, u64::MAX);
+        report.compare(place, name, mismatch, None);
         if self.is_refused {
-            report.compare(place, way.name(), self.refused_mismatch(way, hint), None);
+            report.compare(place, name, self.refused_mismatch(way, hint), None);
         }
-        Ok(())
     }
 
     // Refuses each request for memory in turn, until none is: there is one at least.
-    fn refused_mismatch(&self, way: Way, hint: Option<usize>) -> Option<StreamMismatch> {
+    fn refused_mismatch(&self, way: Way, hint: Option<usize>) -> Option<Mismatch> {
         let mut refused = RefusedWay {
             case: self,
             way,
@@ -100,9 +87,9 @@ impl StreamCase<'_> {
             mismatch: None,
         };
         match refused.failures() {
-            Ok(0) => Some(StreamMismatch::Requests(0)),
+            Ok(0) => Some((Wrong::Requests, 0)),
             Ok(_) => None,
-            Err(number) => refused.mismatch.or(Some(StreamMismatch::Requests(number))),
+            Err(number) => refused.mismatch.or(Some((Wrong::Request, number))),
         }
     }
 
@@ -113,8 +100,10 @@ impl StreamCase<'_> {
         hint: Option<usize>,
         memory: &'m Refusing<Global>,
         number: u64,
-    ) -> Result<Option<StreamMismatch>, AllocError> {
-        let mut buf = String::from_str(memory, OLD)?;
+    ) -> Option<Mismatch> {
+        let Ok(mut buf) = String::from_str(memory, OLD) else {
+            return Some((Wrong::Request, 0));
+        };
         memory.refuse_only(number);
         let mut watch = Watch::new(self.alloc, memory, &self.steps, &self.text);
         match way {
@@ -124,18 +113,20 @@ impl StreamCase<'_> {
             }
             Way::Live | Way::Lent | Way::Sized => self.show_rows(way, &mut watch, &mut buf),
             Way::Printer | Way::Tested => self.try_rows(way, hint, &mut watch, &mut buf),
-            Way::WholePeekable | Way::WholeIter | Way::WholeCompact => {
-                self.print_whole(way, &mut watch, &mut buf)
-            }
+            Way::Whole(grid) => self.print_whole(grid, &mut watch, &mut buf),
         }
-        Ok(watch.mismatch())
+        watch.mismatch()
     }
 }
 
 /// Checks what no section can say.
-pub(crate) fn check_others(alloc: Global, report: &mut Report) -> Result<(), CaseFault> {
-    check_values(alloc, report)?;
-    check_given(alloc, report)?;
-    check_counted(alloc, report)?;
-    check_taken(alloc, report)
+pub(crate) fn check_others(alloc: Global, report: &mut Report) {
+    let checked = check_values(alloc, report);
+    report.take(0, "single values", checked);
+    let checked = check_given(alloc, report);
+    report.take(0, "rows that are given", checked);
+    let checked = check_counted(alloc, report);
+    report.take(0, "cells that are counted", checked);
+    let checked = check_taken(alloc, report);
+    report.take(0, "cells that are taken", checked);
 }

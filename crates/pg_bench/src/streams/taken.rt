@@ -27,13 +27,18 @@ fn print_only_row(
     Some((cells.left, is_printed))
 }
 
-// Prints that row in columns of width 2, as high as one line.
+/// Columns of width 2, and a row of one line.
+pub(crate) fn narrow_row(alloc: Global) -> Result<ConstantDimension, AllocError> {
+    let widths = vec![in alloc; 2; 3]?;
+    Ok(ConstantDimension(widths, vec![in alloc; 1; 1]?))
+}
+
+// Prints that row in these columns.
 fn print_narrow_row(
     alloc: Global,
     buf: &mut String<&Refusing<Global>>,
 ) -> Result<Option<(usize, bool)>, AllocError> {
-    let widths = [2, 2, 2].as_slice().to_vec(alloc)?;
-    let dimension = ConstantDimension(widths, [1].as_slice().to_vec(alloc)?);
+    let dimension = narrow_row(alloc)?;
     let config = SpannedConfig::new(alloc);
     let made: Result<Printer<'_>, StreamFault> = RowPrinter::try_new(
         alloc, &config, &dimension, &NoColors, 3, None,

@@ -86,5 +86,5 @@ pub(crate) fn check_values(alloc: Global, report: &mut Report) -> Result<(), Cas
         report.compare(PLACE, "count_empty_lines", count_empty_lines(text), counts);
     }
     check_totals(alloc, report)?;
-    Ok(check_full(alloc, report)?)
+    check_full(alloc, report).map_err(CaseFault::from)
 }

@@ -1,5 +1,6 @@
 //! What calls return and append, beside what is expected.
 
+use crate::case::{Mismatch, Wrong};
 use crate::streams::case::Step;
 use pg_testing::refusing::Refusing;
 use std::alloc::Global;
@@ -14,21 +15,8 @@ pub(crate) type Memory<'m> = &'m Refusing<Global>;
 /// A buffer.
 pub(crate) type Buffer<'m> = String<Memory<'m>>;
 
-/// The first thing that is wrong, and at which step.
-#[derive(Debug, Clone, Copy, PartialEq, Eq)]
-pub(crate) enum StreamMismatch {
-    /// What the call returns.
-    Answer(usize),
-    /// What the buffer holds.
-    Text(usize),
-    /// What a printer says of itself.
-    Note(usize),
-    /// How many requests for memory came.
-    Requests(u64),
-}
-
 /// The steps of a table that is printed, and what was wrong with them so far.
-#[derive(Drop)]
+#[derive(Clone, Copy)]
 pub(crate) struct Watch<'w> {
     pub(crate) alloc: Global,
     pub(crate) memory: Memory<'w>,
@@ -37,7 +25,7 @@ pub(crate) struct Watch<'w> {
     text: &'w str,
     // How much of the buffer was there when memory was refused.
     left: Option<usize>,
-    mismatch: Option<StreamMismatch>,
+    mismatch: Option<Mismatch>,
 }
 
 impl<'w> Watch<'w> {
@@ -59,14 +47,14 @@ impl<'w> Watch<'w> {
     }
 
     /// The first thing that was wrong.
-    pub(crate) fn mismatch(&self) -> Option<StreamMismatch> {
+    pub(crate) fn mismatch(&self) -> Option<Mismatch> {
         self.mismatch
     }
 
-    /// Takes what is wrong, if nothing was before.
-    pub(crate) fn take(&mut self, mismatch: StreamMismatch) {
+    /// Takes what is wrong at this step, if nothing was before.
+    pub(crate) fn take(&mut self, what: Wrong, step: usize) {
         if self.mismatch.is_none() {
-            self.mismatch = Some(mismatch);
+            self.mismatch = Some((what, step as u64));
         }
     }
 
@@ -77,7 +65,7 @@ impl<'w> Watch<'w> {
             None => false,
         };
         if !is_expected || self.memory.has_refused() {
-            self.take(StreamMismatch::Answer(step));
+            self.take(Wrong::Answer, step);
         }
         self.look(step, buf);
     }
@@ -85,11 +73,11 @@ impl<'w> Watch<'w> {
     /// The call of this step returned a fault.
     pub(crate) fn stops<F: Display>(&mut self, step: usize, fault: &F, buf: &str) {
         let Ok(words) = format!(in self.alloc; "{fault}") else {
-            return self.take(StreamMismatch::Answer(step));
+            return self.take(Wrong::Answer, step);
         };
         if self.memory.has_refused() {
             if words.as_str() != "out of memory" {
-                self.take(StreamMismatch::Answer(step));
+                self.take(Wrong::Answer, step);
             }
             return self.look_refused(step, buf);
         }
@@ -98,7 +86,7 @@ impl<'w> Watch<'w> {
             None => false,
         };
         if !is_expected {
-            self.take(StreamMismatch::Answer(step));
+            self.take(Wrong::Answer, step);
         }
         self.look(step, buf);
     }
@@ -118,7 +106,7 @@ impl<'w> Watch<'w> {
             None => 0,
         };
         if buf.strip_prefix(OLD) != self.text.get(..bytes) {
-            self.take(StreamMismatch::Text(step));
+            self.take(Wrong::Text, step);
         }
     }
 
@@ -133,7 +121,7 @@ impl<'w> Watch<'w> {
             None => true,
         };
         if !is_beginning || !is_left {
-            self.take(StreamMismatch::Text(step));
+            self.take(Wrong::Text, step);
         }
         self.left = Some(buf.len());
     }
@@ -153,7 +141,7 @@ impl<'w> Watch<'w> {
             _ => false,
         };
         if !is_expected {
-            self.take(StreamMismatch::Answer(step));
+            self.take(Wrong::Answer, step);
         }
     }
 
@@ -164,7 +152,7 @@ impl<'w> Watch<'w> {
             None => false,
         };
         if !is_expected {
-            self.take(StreamMismatch::Note(step));
+            self.take(Wrong::Note, step);
         }
     }
 }

@@ -1,9 +1,10 @@
 //! The ways in which rows are handed over.
 
 use crate::fault::CaseFault;
+use crate::tables::grid::Grid;
 
 /// How the rows of a table are handed over.
-#[derive(Clone, Copy, PartialEq, Eq)]
+#[derive(Clone, Copy)]
 pub(crate) enum Way {
     /// One after the other, to a stream that holds a row.
     Push,
@@ -25,12 +26,8 @@ pub(crate) enum Way {
     Printer,
     /// To a printer, behind the test of each call.
     Tested,
-    /// As records, to the looked-up grid, which prints them where each line is shown.
-    WholePeekable,
-    /// As records, to the streaming grid, which prints them where each line is shown.
-    WholeIter,
-    /// As records, to the compact grid, which prints them where each line is shown.
-    WholeCompact,
+    /// As records, to a grid, which prints them where each line is shown.
+    Whole(Grid),
 }
 
 impl Way {
@@ -47,29 +44,10 @@ impl Way {
             "sized" => Ok(Way::Sized),
             "printer" => Ok(Way::Printer),
             "tested" => Ok(Way::Tested),
-            "whole_peekable" => Ok(Way::WholePeekable),
-            "whole_iter" => Ok(Way::WholeIter),
-            "whole_compact" => Ok(Way::WholeCompact),
+            "whole_peekable" => Ok(Way::Whole(Grid::Peekable)),
+            "whole_iter" => Ok(Way::Whole(Grid::Hinted)),
+            "whole_compact" => Ok(Way::Whole(Grid::Compact)),
             _ => Err(CaseFault::Unknown),
-        }
-    }
-
-    /// Its name.
-    pub(crate) fn name(self) -> &'static str {
-        match self {
-            Way::Push => "push",
-            Way::PushFrom => "push_from",
-            Way::PrintVec => "print_vec",
-            Way::PrintAll => "print_all",
-            Way::PrintResults => "print_results",
-            Way::Live => "live",
-            Way::Lent => "lent",
-            Way::Sized => "sized",
-            Way::Printer => "printer",
-            Way::Tested => "tested",
-            Way::WholePeekable => "whole_peekable",
-            Way::WholeIter => "whole_iter",
-            Way::WholeCompact => "whole_compact",
         }
     }
 }

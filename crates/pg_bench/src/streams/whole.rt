@@ -3,27 +3,60 @@
 use crate::rows::owned_row;
 use crate::streams::case::{StepKind, StreamCase};
 use crate::streams::watch::{Buffer, Watch};
-use crate::streams::way::Way;
+use crate::tables::grid::{Grid, GridCall, SizedTable};
 use pg_config::CompactConfig;
-use pg_grid::{CompactGrid, IterGrid, PeekableGrid, Unshown, WholeFault, WholePrinter};
+use pg_grid::{Unshown, WholeFault, WholePrinter};
 use pg_layout::{NoColors, VecRecords};
+use std::alloc::Allocator;
+
+/// The test whether each line is shown, and printing where it is.
+struct PrintWhole<'b, B: Allocator>(&'b mut String<B>);
+
+impl<B: Allocator> GridCall for PrintWhole<'_, B> {
+    type Answer = (Result<(), Unshown>, Result<(), WholeFault>);
+
+    fn made<P: WholePrinter>(self, grid: P) -> (Result<(), Unshown>, Result<(), WholeFault>) {
+        let PrintWhole(buf) = self;
+        (grid.shows_all(), grid.print_whole(buf))
+    }
+}
 
 impl StreamCase<'_> {
-    /// Prints the table by this grid, if each line of its texts is shown.
-    pub(crate) fn print_whole<'m>(&'m self, way: Way, watch: &mut Watch<'m>, buf: &mut Buffer<'m>) {
+    /// Prints the table by this grid, the compact one without a setting, if each line of its texts is shown.
+    pub(crate) fn print_whole<'m>(
+        &'m self,
+        grid: Grid,
+        watch: &mut Watch<'m>,
+        buf: &mut Buffer<'m>,
+    ) {
         let Some(records) = self.records() else {
             return watch.goes(0, buf);
         };
-        let (shown, printed) = match way {
-            Way::WholePeekable => self.by_peekable(&records, buf),
-            Way::WholeIter => self.by_iter(&records, watch, buf),
-            _ => self.by_compact(&records, buf),
-        };
+        let (shown, printed) = self.whole_by(grid, &records, watch.memory, buf);
         watch.hears(0, shown.err());
         match printed {
             Ok(()) => watch.goes(self.stop(), buf),
             Err(fault) => watch.stops(0, &fault, buf),
         }
+    }
+
+    // Whether each line of these rows is shown, and whether the grid prints them.
+    fn whole_by<A: Allocator, B: Allocator>(
+        &self,
+        grid: Grid,
+        records: &VecRecords<String>,
+        memory: A,
+        buf: &mut String<B>,
+    ) -> (Result<(), Unshown>, Result<(), WholeFault>) {
+        let compact = CompactConfig::new();
+        let table = SizedTable {
+            records,
+            config: &*self.config,
+            compact: &compact,
+            dimension: &self.dimension,
+            colors: &NoColors,
+        };
+        table.by(grid, memory, PrintWhole(buf))
     }
 
     // The rows as records with texts of their own, if they are of one length and there is memory for them.
@@ -35,38 +68,5 @@ impl StreamCase<'_> {
             }
         }
         VecRecords::new(rows).ok()
-    }
-
-    // By the looked-up grid.
-    fn by_peekable(
-        &self,
-        records: &VecRecords<String>,
-        buf: &mut Buffer<'_>,
-    ) -> (Result<(), Unshown>, Result<(), WholeFault>) {
-        let grid = PeekableGrid::new(records, &self.config, &self.dimension, &NoColors);
-        (grid.shows_all(), grid.print_whole(buf))
-    }
-
-    // By the streaming grid.
-    fn by_iter(
-        &self,
-        records: &VecRecords<String>,
-        watch: &Watch<'_>,
-        buf: &mut Buffer<'_>,
-    ) -> (Result<(), Unshown>, Result<(), WholeFault>) {
-        let grid = IterGrid::new(records, &self.config, &self.dimension, &NoColors);
-        let grid = grid.with_memory(watch.memory);
-        (grid.shows_all(), grid.print_whole(buf))
-    }
-
-    // By the compact grid without a setting.
-    fn by_compact(
-        &self,
-        records: &VecRecords<String>,
-        buf: &mut Buffer<'_>,
-    ) -> (Result<(), Unshown>, Result<(), WholeFault>) {
-        let config = CompactConfig::new();
-        let grid = CompactGrid::new(records, &config, &self.dimension, &NoColors);
-        (grid.shows_all(), grid.print_whole(buf))
     }
 }

@@ -20,20 +20,18 @@ impl TableCase<'_> {
         endless: (&str, &str),
         report: &mut Report,
     ) -> Result<(), AllocError> {
+        let place = self.place(drawer);
         let needed = self.own_requests(drawer).saturating_add(2);
         let mut longest = 0;
         for granted in 1..GRANTED {
             let bytes = self.draw_beginning(drawer, endless, granted, report)?;
             let goes_on = bytes > longest || granted < needed;
-            report.compare(self.place(drawer), "print", goes_on, true);
+            report.compare(place, "print", goes_on, true);
             longest = bytes;
         }
         let memory = Refusing::from_on(self.alloc, GRANTED);
-        let refused = match self.text(&memory, drawer) {
-            Ok(_) => Ok(()),
-            Err(fault) => Err(fault),
-        };
-        report.compare(self.place(drawer), "text", refused, Err(Refusal::Memory));
+        let refused = self.text(&memory, drawer).err();
+        report.compare(place, "text", refused, Some(Refusal::Memory));
         Ok(())
     }
 
@@ -47,16 +45,16 @@ impl TableCase<'_> {
         granted: u64,
         report: &mut Report,
     ) -> Result<usize, AllocError> {
-        let call = "print";
+        let place = self.place(drawer);
         let memory = Refusing::from_on(self.alloc, granted);
         let mut buf = String::from_str(&memory, OLD)?;
         let printed = self.print(&memory, drawer, &mut buf);
-        report.compare(self.place(drawer), call, printed, Err(Refusal::Memory));
+        report.compare(place, "print", printed, Err(Refusal::Memory));
         let requests = granted.saturating_add(1);
-        report.compare(self.place(drawer), call, memory.requests(), requests);
+        report.compare(place, "print", memory.requests(), requests);
         let front = self.front_of(endless, buf.len())?;
         let is_begun = buf.len() >= OLD.len() && front.starts_with(buf.as_str());
-        report.compare(self.place(drawer), call, is_begun, true);
+        report.compare(place, "print", is_begun, true);
         Ok(buf.len())
     }
 

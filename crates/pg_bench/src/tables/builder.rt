@@ -66,6 +66,6 @@ impl<'a> TableCase<'a> {
 
     /// A table of the rows without a call, which owns its texts.
     pub(crate) fn new_table(&self) -> Result<Table<String>, CaseFault> {
-        Ok(Table::new(self.alloc, self.copied_rows()?)?)
+        Table::new(self.alloc, self.copied_rows()?).map_err(CaseFault::from)
     }
 }

@@ -94,7 +94,7 @@ impl<'t> BuilderCall<'t> {
             }
             _ => Ok(()),
         };
-        Ok(set?)
+        set.map_err(TableFault::from)
     }
 }
 

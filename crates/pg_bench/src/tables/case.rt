@@ -93,15 +93,20 @@ pub(crate) struct TableCase<'a> {
     /// Whether it is that of a table that has all memory.
     pub(crate) has_memory: bool,
     /// How the table is drawn.
-    pub(crate) way: TableWay<'a>,
+    pub(crate) way: Box<TableWay<'a>>,
 }
 
 impl<'a> TableCase<'a> {
-    /// No section.
-    pub(crate) fn new(alloc: Global) -> TableCase<'a> {
-        TableCase {
+    /// No lines of a section, which begins at this line.
+    pub(crate) fn new(
+        alloc: Global,
+        section: &'a str,
+        line: usize,
+    ) -> Result<TableCase<'a>, AllocError> {
+        let way = Box::new(alloc, TableWay::new(alloc, line))?;
+        Ok(TableCase {
             alloc,
-            section: "",
+            section,
             rows: Vec::new(alloc),
             dimension: ConstantDimension(Vec::new(alloc), Vec::new(alloc)),
             natural: None,
@@ -109,8 +114,8 @@ impl<'a> TableCase<'a> {
             again: None,
             refusal: None,
             has_memory: false,
-            way: TableWay::new(alloc, 0),
-        }
+            way,
+        })
     }
 
     // Begins to take what the table gives in this way, in place of what it gave in the one before.
@@ -138,7 +143,7 @@ impl<'a> TableCase<'a> {
     // Takes the next row.
     fn push_row(&mut self, row: &'a str) -> Result<(), CaseFault> {
         let texts = texts_of_row(self.alloc, row)?;
-        Ok(self.rows.push(texts)?)
+        self.rows.push(texts).map_err(CaseFault::from)
     }
 
     // Follows a line that begins with a word.
@@ -176,7 +181,7 @@ impl<'a> TableCase<'a> {
 
     // Takes a setting, or the colour of a cell.
     fn push_setting(&mut self, word: &str, rest: &str, line: &str) -> Result<(), CaseFault> {
-        let way = &mut self.way;
+        let way = &mut *self.way;
         let set = match word {
             "color" => set_cell_color(&mut way.colors, self.alloc, rest),
             "compact" => way.set_compact(rest),
@@ -185,7 +190,7 @@ impl<'a> TableCase<'a> {
                 apply(&mut way.config, self.alloc, line)
             }
         };
-        Ok(set?)
+        set.map_err(CaseFault::from)
     }
 
     // Takes grids that draw the table.
@@ -226,16 +231,14 @@ impl<'a> Case<'a> for TableCase<'a> {
             Line::Comment => Ok(()),
             Line::Section(section) => {
                 self.draw(report);
-                let mut begun = TableCase::new(self.alloc);
-                begun.section = section;
-                begun.way.line = number;
+                let begun = TableCase::new(self.alloc, section, number)?;
                 drop(mem::replace(self, begun));
                 Ok(())
             }
             _ if self.section.is_empty() => Err(CaseFault::Unknown),
             Line::Way => {
                 self.draw(report);
-                let way = TableWay::new(self.alloc, number);
+                let way = Box::new(self.alloc, TableWay::new(self.alloc, number))?;
                 drop(mem::replace(&mut self.way, way));
                 Ok(())
             }

@@ -1,12 +1,11 @@
 //! What draws a table, and its calls.
 
 use crate::tables::case::TableCase;
-use crate::tables::grid::Grid;
+use crate::tables::grid::{Grid, GridCall, SizedTable};
 use crate::tables::refusal::Refusal;
-use pg_grid::{CompactGrid, IterGrid, Misfit, PeekableGrid, PrintFault, TablePrinter};
-use pg_layout::VecRecords;
+use pg_grid::{Misfit, PrintFault, WholePrinter};
+use pg_layout::{ColorsMap, VecRecords};
 use pg_table::Table;
-use pg_testing::unhinted::Unhinted;
 use std::alloc::Allocator;
 
 /// What draws a table, with its rows.
@@ -14,9 +13,16 @@ use std::alloc::Allocator;
 pub(crate) enum Drawer<'r> {
     /// A grid, at given sizes.
     Grid(Grid, &'r VecRecords<String>),
-    /// The builder that is lent the rows, at their natural sizes.
+    /// A builder, at the natural sizes of the rows.
+    Natural(Builder<'r>),
+}
+
+/// A builder of a table at its natural sizes.
+#[derive(Clone, Copy)]
+pub(crate) enum Builder<'r> {
+    /// It is lent the rows.
     Lent(&'r VecRecords<String>),
-    /// The builder with rows and settings of its own.
+    /// It has rows and settings of its own.
     Owned(&'r Table<String>),
 }
 
@@ -28,34 +34,69 @@ impl Drawer<'_> {
             Drawer::Grid(Grid::Hinted, _) => "by hinted",
             Drawer::Grid(Grid::Unhinted, _) => "by unhinted",
             Drawer::Grid(Grid::Compact, _) => "by compact",
-            Drawer::Lent(_) => "lent",
-            Drawer::Owned(_) => "owned",
+            Drawer::Natural(Builder::Lent(_)) => "lent",
+            Drawer::Natural(Builder::Owned(_)) => "owned",
         }
     }
 }
 
+/// The test whether a table fits.
+struct Fits;
+
+impl GridCall for Fits {
+    type Answer = Result<(), Misfit>;
+
+    fn made<P: WholePrinter>(self, grid: P) -> Result<(), Misfit> {
+        let Fits = self;
+        grid.fits()
+    }
+}
+
+/// Printing behind the text of a buffer.
+struct Print<'b, B: Allocator>(&'b mut String<B>);
+
+impl<B: Allocator> GridCall for Print<'_, B> {
+    type Answer = Result<(), PrintFault>;
+
+    fn made<P: WholePrinter>(self, grid: P) -> Result<(), PrintFault> {
+        let Print(buf) = self;
+        grid.print(buf)
+    }
+}
+
+/// A text of its own, which has this memory.
+struct Text<A>(A);
+
+impl<A: Allocator> GridCall for Text<A> {
+    type Answer = Result<String<A>, PrintFault>;
+
+    fn made<P: WholePrinter>(self, grid: P) -> Result<String<A>, PrintFault> {
+        let Text(memory) = self;
+        grid.text(memory)
+    }
+}
+
 impl TableCase<'_> {
-    /// What the test of the table returns. A builder with rows of its own has none, but within a width.
-    pub(crate) fn fits(&self, drawer: Drawer<'_>) -> Option<Result<(), Refusal>> {
-        match (drawer, self.way.within) {
-            (Drawer::Grid(grid, records), _) => {
-                Some(self.fits_grid(grid, records).map_err(Refusal::from))
-            }
-            (Drawer::Owned(_), None) => None,
-            _ => Some(self.fits_naturally(drawer).map_err(Refusal::from)),
+    // The table at the sizes that the lines give.
+    fn sized<'c>(&'c self, records: &'c VecRecords<String>) -> SizedTable<'c, ColorsMap> {
+        let way = &*self.way;
+        SizedTable {
+            records,
+            config: &way.config,
+            compact: &way.compact,
+            dimension: &self.dimension,
+            colors: &way.colors,
         }
     }
 
-    // What the test of a grid returns.
-    fn fits_grid(&self, grid: Grid, records: &VecRecords<String>) -> Result<(), Misfit> {
-        let (config, dimension, colors) = (&self.way.config, &self.dimension, &self.way.colors);
-        match grid {
-            Grid::Peekable => PeekableGrid::new(records, config, dimension, colors).fits(),
-            Grid::Hinted => IterGrid::new(records, config, dimension, colors).fits(),
-            Grid::Unhinted => {
-                IterGrid::new(Unhinted::new(records), config, dimension, colors).fits()
+    /// What the test of the table returns. A builder with rows of its own has none, but within a width.
+    pub(crate) fn fits(&self, drawer: Drawer<'_>) -> Option<Result<(), Refusal>> {
+        match drawer {
+            Drawer::Grid(grid, records) => {
+                let fits = self.sized(records).by(grid, self.alloc, Fits);
+                Some(fits.map_err(Refusal::from))
             }
-            Grid::Compact => CompactGrid::new(records, &self.way.compact, dimension, colors).fits(),
+            Drawer::Natural(builder) => self.fits_naturally(builder),
         }
     }
 
@@ -67,36 +108,13 @@ impl TableCase<'_> {
         buf: &mut String<B>,
     ) -> Result<(), Refusal> {
         match drawer {
-            Drawer::Grid(grid, records) => self
-                .print_by_grid(memory, grid, records, buf)
-                .map_err(Refusal::from),
-            _ => self
-                .print_naturally(memory, drawer, buf)
-                .map_err(Refusal::from),
-        }
-    }
-
-    // Appends the table as a grid prints it.
-    fn print_by_grid<A: Allocator, B: Allocator>(
-        &self,
-        memory: A,
-        grid: Grid,
-        records: &VecRecords<String>,
-        buf: &mut String<B>,
-    ) -> Result<(), PrintFault> {
-        let (config, dimension, colors) = (&self.way.config, &self.dimension, &self.way.colors);
-        match grid {
-            Grid::Peekable => PeekableGrid::new(records, config, dimension, colors).print(buf),
-            Grid::Hinted => {
-                let grid = IterGrid::new(records, config, dimension, colors);
-                grid.with_memory(memory).print(buf)
+            Drawer::Grid(grid, records) => {
+                let printed = self.sized(records).by(grid, memory, Print(buf));
+                printed.map_err(Refusal::from)
             }
-            Grid::Unhinted => {
-                let grid = IterGrid::new(Unhinted::new(records), config, dimension, colors);
-                grid.with_memory(memory).print(buf)
-            }
-            Grid::Compact => {
-                CompactGrid::new(records, &self.way.compact, dimension, colors).print(buf)
+            Drawer::Natural(builder) => {
+                let printed = self.print_naturally(memory, builder, buf);
+                printed.map_err(Refusal::from)
             }
         }
     }
@@ -108,33 +126,13 @@ impl TableCase<'_> {
         drawer: Drawer<'_>,
     ) -> Result<String<A>, Refusal> {
         match drawer {
-            Drawer::Grid(grid, records) => self
-                .text_by_grid(memory, grid, records)
-                .map_err(Refusal::from),
-            _ => self.text_naturally(memory, drawer).map_err(Refusal::from),
-        }
-    }
-
-    // The text of the table as a grid gives it.
-    fn text_by_grid<A: Allocator + Copy>(
-        &self,
-        memory: A,
-        grid: Grid,
-        records: &VecRecords<String>,
-    ) -> Result<String<A>, PrintFault> {
-        let (config, dimension, colors) = (&self.way.config, &self.dimension, &self.way.colors);
-        match grid {
-            Grid::Peekable => PeekableGrid::new(records, config, dimension, colors).text(memory),
-            Grid::Hinted => {
-                let grid = IterGrid::new(records, config, dimension, colors);
-                grid.with_memory(memory).text(memory)
+            Drawer::Grid(grid, records) => {
+                let text = self.sized(records).by(grid, memory, Text(memory));
+                text.map_err(Refusal::from)
             }
-            Grid::Unhinted => {
-                let grid = IterGrid::new(Unhinted::new(records), config, dimension, colors);
-                grid.with_memory(memory).text(memory)
-            }
-            Grid::Compact => {
-                CompactGrid::new(records, &self.way.compact, dimension, colors).text(memory)
+            Drawer::Natural(builder) => {
+                let text = self.text_naturally(memory, builder);
+                text.map_err(Refusal::from)
             }
         }
     }
@@ -147,7 +145,7 @@ impl TableCase<'_> {
             _ if !self.has_cells() => 0,
             Drawer::Grid(Grid::Peekable | Grid::Compact, _) => 0,
             Drawer::Grid(Grid::Hinted | Grid::Unhinted, _) => 1,
-            Drawer::Lent(_) | Drawer::Owned(_) => self.requests_of_sizes(drawer),
+            Drawer::Natural(builder) => self.requests_of_sizes(builder),
         }
     }
 }

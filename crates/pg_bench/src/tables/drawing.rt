@@ -2,7 +2,7 @@
 
 use crate::fault::CaseFault;
 use crate::tables::case::TableCase;
-use crate::tables::drawer::Drawer;
+use crate::tables::drawer::{Builder, Drawer};
 use crate::tables::grid::{Grid, SPANNED};
 use crate::tables::refusal::Refusal;
 use pg_layout::VecRecords;
@@ -74,12 +74,12 @@ impl TableCase<'_> {
         let table = match self.way.table.take() {
             Some(table) => table,
             None => {
-                self.draw_by(Drawer::Lent(records), report)?;
+                self.draw_by(Drawer::Natural(Builder::Lent(records)), report)?;
                 let (config, colors) = (self.take_config(), self.take_colors());
                 self.new_table()?.with_config(config).with_colors(colors)
             }
         };
-        self.draw_by(Drawer::Owned(&table), report)
+        self.draw_by(Drawer::Natural(Builder::Owned(&table)), report)
     }
 
     // Draws the table and compares what that gives.
@@ -92,8 +92,12 @@ impl TableCase<'_> {
             (None, None, Some(refusal)) => self.draw_refusal(drawer, refusal, report)?,
             _ => return Err(CaseFault::Unanswered),
         }
-        self.list_sizes(drawer, report)?;
-        self.look_within(drawer, report);
+        let Drawer::Natural(builder) = drawer else {
+            return Ok(());
+        };
+        let place = self.place(drawer);
+        self.list_sizes(place, builder, report)?;
+        self.look_within(place, builder, report);
         Ok(())
     }
 

@@ -1,5 +1,6 @@
 //! Tables that are drawn while memory is refused.
 
+use crate::case::{Mismatch, Wrong};
 use crate::tables::case::TableCase;
 use crate::tables::drawer::Drawer;
 use crate::tables::drawing::OLD;
@@ -22,17 +23,6 @@ enum PrintCall {
     Print,
     /// It gives a text of its own.
     Text,
-}
-
-/// The first thing that is wrong.
-#[derive(Debug, Clone, Copy, PartialEq, Eq)]
-pub(crate) enum TableMismatch {
-    /// What the call returns or leaves, where its request of this number is refused.
-    Request(u64),
-    /// What it returns or leaves, where there is room for so many bytes.
-    Room(usize),
-    /// How many requests came.
-    Count(u64),
 }
 
 /// A call of a table that is made while memory is refused, what draws the table, and its picture.
@@ -82,10 +72,10 @@ impl Trial for RefusedTable<'_, '_> {
 
 impl RefusedTable<'_, '_> {
     // Refuses the requests of the call in turn, until one comes no more.
-    fn mismatch(mut self) -> Option<TableMismatch> {
+    fn mismatch(mut self) -> Option<Mismatch> {
         match self.failures() {
             Ok(requests) => self.mismatch_of_count(requests),
-            Err(number) => Some(TableMismatch::Request(number)),
+            Err(number) => Some((Wrong::Request, number)),
         }
     }
 
@@ -130,19 +120,19 @@ impl RefusedTable<'_, '_> {
 
     // Tells of so many requests where they are too few, or where none but those that printing makes of its
     // own is needed: a picture that isn't empty takes one or more for the buffer.
-    fn mismatch_of_count(&self, requests: u64) -> Option<TableMismatch> {
+    fn mismatch_of_count(&self, requests: u64) -> Option<Mismatch> {
         let own = self.case.own_requests(self.drawer);
         let is_right = if self.picture.is_empty() {
             requests == own
         } else {
             requests > own
         };
-        (!is_right).then_some(TableMismatch::Count(requests))
+        (!is_right).then_some((Wrong::Requests, requests))
     }
 
     // Prints the table into buffers of more and more room, the last of which has room for all of it. Of a
     // long picture only the last two are tried.
-    fn mismatch_of_rooms(&self) -> Option<TableMismatch> {
+    fn mismatch_of_rooms(&self) -> Option<Mismatch> {
         let bytes = self.picture.len();
         let first = if bytes > SHORT {
             bytes.saturating_sub(1)
@@ -156,7 +146,7 @@ impl RefusedTable<'_, '_> {
                 Outcome::Whole
             };
             if self.within(room) != expected {
-                return Some(TableMismatch::Room(room));
+                return Some((Wrong::Room, room as u64));
             }
         }
         None

@@ -1,10 +1,10 @@
 //! Calls of a builder that are made while memory is refused.
 
+use crate::case::{Mismatch, Wrong};
 use crate::fault::CaseFault;
 use crate::tables::builder_call::BuilderCall;
 use crate::tables::case::TableCase;
 use crate::tables::refusal::Refusal;
-use crate::tables::refused::TableMismatch;
 use pg_table::Table;
 use pg_testing::refusing::Refusing;
 use pg_testing::report::Report;
@@ -71,7 +71,7 @@ impl<'a> TableCase<'a> {
         let memory = Refusing::from_on(self.alloc, u64::MAX);
         drop(self.table_in(&memory)?);
         let requests = memory.requests();
-        let expected = (!takes_memory).then_some(TableMismatch::Count(0));
+        let expected = (!takes_memory).then_some((Wrong::Requests, 0));
         report.compare(place, set, self.mismatch_of_call(call, requests)?, expected);
         let expected = takes_memory.then_some(Refusal::Memory);
         report.compare(place, with, self.refusal_of_call(call, requests)?, expected);
@@ -85,12 +85,12 @@ impl<'a> TableCase<'a> {
     }
 
     // Refuses each request that this call makes by reference, and all behind it, of a table that makes so many
-    // before. `Count(0)` is for a call that makes none.
+    // before. `(Wrong::Requests, 0)` is for a call that makes none.
     fn mismatch_of_call(
         &self,
         call: BuilderCall<'_>,
         requests: u64,
-    ) -> Result<Option<TableMismatch>, CaseFault> {
+    ) -> Result<Option<Mismatch>, CaseFault> {
         let before = self.new_table()?.to_string(self.alloc)?;
         let mut refused = RefusedBuilder {
             case: self,
@@ -99,9 +99,9 @@ impl<'a> TableCase<'a> {
             before: before.as_str(),
         };
         Ok(match refused.failures() {
-            Ok(0) => Some(TableMismatch::Count(0)),
+            Ok(0) => Some((Wrong::Requests, 0)),
             Ok(_) => None,
-            Err(number) => Some(TableMismatch::Request(number)),
+            Err(number) => Some((Wrong::Request, number)),
         })
     }
 
@@ -125,6 +125,6 @@ impl<'a> TableCase<'a> {
         for row in &self.rows {
             rows.push(row.as_slice().to_vec(memory)?)?;
         }
-        Ok(Table::new(memory, rows)?)
+        Table::new(memory, rows).map_err(CaseFault::from)
     }
 }

@@ -1,8 +1,8 @@
 //! Natural sizes.
 
+use crate::case::{Mismatch, Wrong};
 use crate::tables::case::TableCase;
-use crate::tables::drawer::Drawer;
-use crate::tables::refused::TableMismatch;
+use crate::tables::drawer::Builder;
 use pg_layout::ConstantDimension;
 use pg_table::TableFault;
 use pg_testing::refusing::Refusing;
@@ -21,23 +21,19 @@ impl TableCase<'_> {
     /// width there may be more. Then refuses each.
     pub(crate) fn list_sizes(
         &self,
-        drawer: Drawer<'_>,
+        place: (usize, &str),
+        builder: Builder<'_>,
         report: &mut Report,
     ) -> Result<(), AllocError> {
         let sizes = self.natural.unwrap_or("");
         if sizes.is_empty() {
             return Ok(());
         }
-        let memory = Refusing::from_on(self.alloc, self.requests_of_sizes(drawer));
-        let text = sizes_text(self.alloc, &self.sizes(&memory, drawer))?;
-        report.compare(
-            self.place(drawer),
-            "natural_dimension",
-            text.as_str(),
-            sizes,
-        );
-        let mismatch = self.mismatch_of_sizes(drawer);
-        report.compare(self.place(drawer), "natural_dimension", mismatch, None);
+        let memory = Refusing::from_on(self.alloc, self.requests_of_sizes(builder));
+        let text = sizes_text(self.alloc, &self.sizes(&memory, builder))?;
+        report.compare(place, "natural_dimension", text.as_str(), sizes);
+        let mismatch = self.mismatch_of_sizes(builder);
+        report.compare(place, "natural_dimension", mismatch, None);
         Ok(())
     }
 
@@ -51,26 +47,26 @@ impl TableCase<'_> {
 
     /// How many requests the listing of natural sizes makes. They are counted within a width, and with spans if
     /// there are such sizes; else there is one for each list.
-    pub(crate) fn requests_of_sizes(&self, drawer: Drawer<'_>) -> u64 {
+    pub(crate) fn requests_of_sizes(&self, builder: Builder<'_>) -> u64 {
         let is_counted = self.way.is_spanned && self.lists() > 0;
         if self.way.within.is_none() && !is_counted {
             return self.lists();
         }
         let memory = Refusing::from_on(self.alloc, u64::MAX);
-        drop(self.sizes(&memory, drawer));
+        drop(self.sizes(&memory, builder));
         memory.requests()
     }
 
     // Refuses each request for the memory of sizes in turn, alone. A table without natural sizes shows so before
     // some of these requests, so none is refused there.
-    fn mismatch_of_sizes(&self, drawer: Drawer<'_>) -> Option<TableMismatch> {
+    fn mismatch_of_sizes(&self, builder: Builder<'_>) -> Option<Mismatch> {
         if self.lists() == 0 {
             return None;
         }
-        for number in 0..self.requests_of_sizes(drawer) {
+        for number in 0..self.requests_of_sizes(builder) {
             let memory = Refusing::only(self.alloc, number);
-            if self.sizes(&memory, drawer).err() != Some(TableFault::Memory) {
-                return Some(TableMismatch::Request(number));
+            if self.sizes(&memory, builder).err() != Some(TableFault::Memory) {
+                return Some((Wrong::Request, number));
             }
         }
         None
@@ -85,10 +81,10 @@ fn sizes_text<A: Allocator>(
     match listed {
         Ok(ConstantDimension(widths, heights)) => {
             let (widths, heights) = (widths.as_slice(), heights.as_slice());
-            Ok(format!(in alloc; "{widths:?} {heights:?}")?)
+            format!(in alloc; "{widths:?} {heights:?}")
         }
         Err(TableFault::Totals) => String::from_str(alloc, NONE),
         Err(TableFault::Spans) => String::from_str(alloc, SPANS),
-        Err(fault) => Ok(format!(in alloc; "{fault:?}")?),
+        Err(fault) => format!(in alloc; "{fault:?}"),
     }
 }

@@ -3,7 +3,7 @@
 use crate::fault::CaseFault;
 use crate::numbers::number_of;
 use crate::tables::case::TableCase;
-use crate::tables::drawer::Drawer;
+use crate::tables::drawer::Builder;
 use crate::tables::refusal::Refusal;
 use crate::texts::fit_call::breaking_of;
 use pg_layout::{ColorsMap, ConstantDimension, VecRecords};
@@ -69,46 +69,47 @@ impl<'a> TableCase<'a> {
         NaturalTable::new(records, &self.way.config, &self.way.colors)
     }
 
-    // The table within a width. A grid draws none.
+    // The table within a width.
     fn fitted<'c, A: Allocator + Copy>(
         &'c self,
         memory: A,
-        drawer: Drawer<'c>,
+        builder: Builder<'c>,
         Within { width, how }: Within<'a>,
     ) -> Result<FittedTable<'c, &'c VecRecords<String>, ColorsMap, Global, A>, TableFault> {
         let limits = self.way.limits.as_slice();
-        match drawer {
-            Drawer::Owned(table) => table.within_limits(memory, width, limits, how),
-            Drawer::Lent(records) | Drawer::Grid(_, records) => {
-                self.lent(records).within_limits(memory, width, limits, how)
-            }
+        match builder {
+            Builder::Owned(table) => table.within_limits(memory, width, limits, how),
+            Builder::Lent(records) => self.lent(records).within_limits(memory, width, limits, how),
         }
     }
 
-    /// What the test of the table at its natural sizes returns, or of that within a width.
-    pub(crate) fn fits_naturally(&self, drawer: Drawer<'_>) -> Result<(), TableFault> {
-        match (drawer, self.way.within) {
-            (_, Some(within)) => self.fitted(self.alloc, drawer, within)?.fits(self.alloc),
-            (Drawer::Owned(_), None) => Ok(()),
-            (Drawer::Lent(records) | Drawer::Grid(_, records), None) => {
-                self.lent(records).fits(self.alloc)
-            }
-        }
+    /// What the test of the table at its natural sizes returns, or of that within a width. A builder with rows of
+    /// its own has no test at natural sizes.
+    pub(crate) fn fits_naturally(&self, builder: Builder<'_>) -> Option<Result<(), Refusal>> {
+        let fits = match (self.way.within, builder) {
+            (Some(within), _) => self.fits_within(builder, within),
+            (None, Builder::Lent(records)) => self.lent(records).fits(self.alloc),
+            (None, Builder::Owned(_)) => return None,
+        };
+        Some(fits.map_err(Refusal::from))
+    }
+
+    // What the test of the table within a width returns.
+    fn fits_within(&self, builder: Builder<'_>, within: Within<'a>) -> Result<(), TableFault> {
+        self.fitted(self.alloc, builder, within)?.fits(self.alloc)
     }
 
     /// Appends such a table, with `memory` for all but the buffer.
     pub(crate) fn print_naturally<A: Allocator + Copy, B: Allocator>(
         &self,
         memory: A,
-        drawer: Drawer<'_>,
+        builder: Builder<'_>,
         buf: &mut String<B>,
     ) -> Result<(), TableFault> {
-        match (drawer, self.way.within) {
-            (_, Some(within)) => self.fitted(memory, drawer, within)?.print(memory, buf),
-            (Drawer::Owned(table), None) => table.print(memory, buf),
-            (Drawer::Lent(records) | Drawer::Grid(_, records), None) => {
-                self.lent(records).print(memory, buf)
-            }
+        match (self.way.within, builder) {
+            (Some(within), _) => self.fitted(memory, builder, within)?.print(memory, buf),
+            (None, Builder::Lent(records)) => self.lent(records).print(memory, buf),
+            (None, Builder::Owned(table)) => table.print(memory, buf),
         }
     }
 
@@ -116,14 +117,12 @@ impl<'a> TableCase<'a> {
     pub(crate) fn text_naturally<A: Allocator + Copy>(
         &self,
         memory: A,
-        drawer: Drawer<'_>,
+        builder: Builder<'_>,
     ) -> Result<String<A>, TableFault> {
-        match (drawer, self.way.within) {
-            (_, Some(within)) => self.fitted(memory, drawer, within)?.to_string(memory),
-            (Drawer::Owned(table), None) => table.to_string(memory),
-            (Drawer::Lent(records) | Drawer::Grid(_, records), None) => {
-                self.lent(records).to_string(memory)
-            }
+        match (self.way.within, builder) {
+            (Some(within), _) => self.fitted(memory, builder, within)?.to_string(memory),
+            (None, Builder::Lent(records)) => self.lent(records).to_string(memory),
+            (None, Builder::Owned(table)) => table.to_string(memory),
         }
     }
 
@@ -131,44 +130,45 @@ impl<'a> TableCase<'a> {
     pub(crate) fn sizes<A: Allocator + Copy>(
         &self,
         memory: A,
-        drawer: Drawer<'_>,
+        builder: Builder<'_>,
     ) -> Result<ConstantDimension<A>, TableFault> {
-        match (drawer, self.way.within) {
-            (_, Some(within)) => self
-                .fitted(memory, drawer, within)?
+        match (self.way.within, builder) {
+            (Some(within), _) => self
+                .fitted(memory, builder, within)?
                 .natural_dimension(memory),
-            (Drawer::Owned(table), None) => table.natural_dimension(memory),
-            (Drawer::Lent(records) | Drawer::Grid(_, records), None) => {
-                self.lent(records).natural_dimension(memory)
-            }
+            (None, Builder::Lent(records)) => self.lent(records).natural_dimension(memory),
+            (None, Builder::Owned(table)) => table.natural_dimension(memory),
         }
     }
 
     // The least width of a line.
-    fn least_width(&self, drawer: Drawer<'_>, how: Overflow<'a>) -> Result<usize, TableFault> {
-        match drawer {
-            Drawer::Owned(table) => table.least_width(self.alloc, how),
-            Drawer::Lent(records) | Drawer::Grid(_, records) => {
-                self.lent(records).least_width(self.alloc, how)
-            }
+    fn least_width(&self, builder: Builder<'_>, how: Overflow<'a>) -> Result<usize, TableFault> {
+        match builder {
+            Builder::Lent(records) => self.lent(records).least_width(self.alloc, how),
+            Builder::Owned(table) => table.least_width(self.alloc, how),
         }
     }
 
     /// Asks for the least width of a line, where the case has it, and where nothing changes for the table
     /// while all memory is refused.
-    pub(crate) fn look_within(&self, drawer: Drawer<'_>, report: &mut Report) {
+    pub(crate) fn look_within(
+        &self,
+        place: (usize, &str),
+        builder: Builder<'_>,
+        report: &mut Report,
+    ) {
         let Some(within) = self.way.within else {
             return;
         };
         if let Some(expected) = self.way.least {
-            let least = self.least_width(drawer, within.how).ok();
-            report.compare(self.place(drawer), "least_width", least, expected);
+            let least = self.least_width(builder, within.how).ok();
+            report.compare(place, "least_width", least, expected);
         }
         if self.way.is_unchanged {
             let memory = Refusing::from_on(self.alloc, 0);
-            let refused = self.fitted(&memory, drawer, within).err();
+            let refused = self.fitted(&memory, builder, within).err();
             let refused = refused.map(Refusal::from);
-            report.compare(self.place(drawer), "within", refused, None);
+            report.compare(place, "within", refused, None);
         }
     }
 

@@ -17,8 +17,8 @@ pub(crate) struct TextCase<'a> {
     alloc: Global,
     section: &'a str,
     text: &'a str,
-    // The call, and the number of its line.
-    call: Option<(usize, FitCall<'a>)>,
+    // The number of the line of the call, its name, and the call.
+    call: Option<(usize, &'a str, FitCall<'a>)>,
     // The lines so far of what it is to give.
     made: Option<String>,
 }
@@ -44,13 +44,13 @@ impl<'a> TextCase<'a> {
     ) -> Result<(), CaseFault> {
         let (word, rest) = line.split_once(' ').unwrap_or((line, ""));
         if word == "=" {
-            return Ok(push_line(self.alloc, &mut self.made, rest)?);
+            return push_line(self.alloc, &mut self.made, rest).map_err(CaseFault::from);
         }
         self.make(report)?;
         if word == "least" {
             return self.ask_least(number, rest, report);
         }
-        self.call = Some((number, FitCall::of(word, rest)?));
+        self.call = Some((number, word, FitCall::of(word, rest)?));
         Ok(())
     }
 
@@ -65,20 +65,20 @@ impl<'a> TextCase<'a> {
 
     // Makes the call of the latest line that has one.
     fn make(&mut self, report: &mut Report) -> Result<(), CaseFault> {
-        let Some((number, call)) = self.call.take() else {
+        let Some((number, name, call)) = self.call.take() else {
             return Ok(());
         };
         let expected = self.made.take().ok_or(CaseFault::Unknown)?;
         let place = (number, self.section);
         report.count_case();
         let made = call.made(self.alloc, self.text)?;
-        report.compare(place, call.name(), made.as_str(), expected.as_str());
+        report.compare(place, name, made.as_str(), expected.as_str());
         let mut refused = RefusedFit {
             alloc: self.alloc,
             call,
             text: self.text,
         };
-        report.compare(place, call.name(), refused.failures().err(), None);
+        report.compare(place, name, refused.failures().err(), None);
         Ok(())
     }
 }
@@ -92,19 +92,20 @@ impl<'a> Case<'a> for TextCase<'a> {
         report: &mut Report,
     ) -> Result<(), CaseFault> {
         match Line::of(line) {
-            Line::Comment => {}
+            Line::Comment => Ok(()),
             Line::Section(section) => {
-                self.make(report)?;
+                let made = self.make(report);
                 self.section = section;
+                made
             }
             Line::Row(row) => {
-                self.make(report)?;
+                let made = self.make(report);
                 self.text = text_of(self.alloc, row)?;
+                made
             }
-            Line::Words(line) => self.push_words(number, line, report)?,
-            Line::Way => return Err(CaseFault::Unknown),
+            Line::Words(line) => self.push_words(number, line, report),
+            Line::Way => Err(CaseFault::Unknown),
         }
-        Ok(())
     }
 
     fn finish(&mut self, report: &mut Report) -> Result<(), CaseFault> {

@@ -36,27 +36,19 @@ pub(crate) fn breaking_of(word: &str) -> Result<Breaking, CaseFault> {
 impl<'a> FitCall<'a> {
     /// The call of a line, by its first word and the rest.
     pub(crate) fn of(word: &str, rest: &'a str) -> Result<FitCall<'a>, CaseFault> {
-        let (width, how) = rest.split_once(' ').unwrap_or((rest, ""));
         match word {
-            "wrap" => Ok(FitCall::Wrap(number_of(width)?, breaking_of(how)?)),
-            "cut" => Ok(FitCall::Cut(number_of(width)?, how)),
-            "cut_front" => Ok(FitCall::CutFront(number_of(width)?, how)),
-            "cut_middle" => Ok(FitCall::CutMiddle(number_of(width)?, how)),
-            "visible" if rest.is_empty() => Ok(FitCall::Visible),
-            "without_escapes" if rest.is_empty() => Ok(FitCall::WithoutEscapes),
-            _ => Err(CaseFault::Unknown),
+            "visible" if rest.is_empty() => return Ok(FitCall::Visible),
+            "without_escapes" if rest.is_empty() => return Ok(FitCall::WithoutEscapes),
+            _ => {}
         }
-    }
-
-    /// The name of the function that it calls.
-    pub(crate) fn name(self) -> &'static str {
-        match self {
-            FitCall::Wrap(_, _) => "wrap",
-            FitCall::Cut(_, _) => "cut",
-            FitCall::CutFront(_, _) => "cut_front",
-            FitCall::CutMiddle(_, _) => "cut_middle",
-            FitCall::Visible => "visible",
-            FitCall::WithoutEscapes => "without_escapes",
+        let (width, how) = rest.split_once(' ').unwrap_or((rest, ""));
+        let width = number_of(width)?;
+        match word {
+            "wrap" => Ok(FitCall::Wrap(width, breaking_of(how)?)),
+            "cut" => Ok(FitCall::Cut(width, how)),
+            "cut_front" => Ok(FitCall::CutFront(width, how)),
+            "cut_middle" => Ok(FitCall::CutMiddle(width, how)),
+            _ => Err(CaseFault::Unknown),
         }
     }
 

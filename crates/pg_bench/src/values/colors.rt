@@ -9,7 +9,7 @@ use std::alloc::Global;
 
 // A colour with this prefix.
 fn color(alloc: Global, prefix: &str) -> Result<ANSIBuf, CaseFault> {
-    Ok(ANSIBuf::new(alloc, prefix, "</>")?)
+    ANSIBuf::new(alloc, prefix, "</>").map_err(CaseFault::from)
 }
 
 // The prefix of a colour, if there is one.
@@ -39,7 +39,7 @@ fn the_latest_color_of_a_place_counts(alloc: Global, report: &mut Report) -> Res
     Ok(())
 }
 
-fn lent_colors_are_equal_by_both_texts(alloc: Global, report: &mut Report) {
+fn lent_colors_are_equal_by_both_texts(report: &mut Report) {
     let mut fact = Fact::new(report, "lent colors are equal by both texts");
     let red = ANSIStr::new("<r>", "</r>");
     fact.holds(ANSIStr::default().is_empty() && !ANSIStr::new("", "</r>").is_empty());
@@ -102,12 +102,15 @@ fn a_color_is_made_of_any_two_texts(alloc: Global, report: &mut Report) -> Resul
 }
 
 /// All facts of this file.
-pub(crate) fn check_colors(alloc: Global, report: &mut Report) -> Result<(), CaseFault> {
-    the_latest_color_of_a_place_counts(alloc, report)?;
-    lent_colors_are_equal_by_both_texts(alloc, report);
-    colors_are_equal_by_both_texts(alloc, report)?;
-    colors_of_two_types_are_the_same_by_both_texts(alloc, report)?;
+pub(crate) fn check_colors(alloc: Global, report: &mut Report) {
+    let checked = the_latest_color_of_a_place_counts(alloc, report);
+    report.take(0, "colors of places", checked);
+    lent_colors_are_equal_by_both_texts(report);
+    let checked = colors_are_equal_by_both_texts(alloc, report);
+    report.take(0, "equal colors", checked);
+    let checked = colors_of_two_types_are_the_same_by_both_texts(alloc, report);
+    report.take(0, "colors of two types", checked);
     a_color_needs_memory_for_both_texts(alloc, report);
-    a_color_is_made_of_any_two_texts(alloc, report)?;
-    Ok(())
+    let checked = a_color_is_made_of_any_two_texts(alloc, report);
+    report.take(0, "colors of any texts", checked);
 }

@@ -197,5 +197,5 @@ pub(crate) fn check_endings(alloc: Global, report: &mut Report) -> Result<(), Ca
     a_reader_without_an_end_is_refused(alloc, report);
     unread_arguments_end_the_run(alloc, report);
     each_fault_keeps_its_status_where_it_is_not_told(alloc, report)?;
-    Ok(an_ending_says_whether_its_fault_is_told(alloc, report)?)
+    an_ending_says_whether_its_fault_is_told(alloc, report).map_err(CaseFault::from)
 }

@@ -52,6 +52,5 @@ fn rows_of_another_iterator_are_read(alloc: Global, report: &mut Report) -> Resu
 /// All facts of this file.
 pub(crate) fn check_given(alloc: Global, report: &mut Report) -> Result<(), CaseFault> {
     rows_of_arrays_are_read(alloc, report)?;
-    rows_of_another_iterator_are_read(alloc, report)?;
-    Ok(())
+    rows_of_another_iterator_are_read(alloc, report)
 }

@@ -12,6 +12,14 @@ const TWICE: Position = Position { row: 0, col: 7 };
 // The place behind it.
 const NEXT: Position = Position { row: 0, col: 8 };
 
+/// What is set at a place, and what was there before.
+const EXCHANGES: [(Position, Option<u8>, Option<u8>); 4] = [
+    (TWICE, Some(5), Some(4)),
+    (NEXT, Some(6), None),
+    (TWICE, None, Some(5)),
+    (TWICE, None, None),
+];
+
 fn at(row: usize, col: usize) -> Position {
     Position { row, col }
 }
@@ -44,10 +52,9 @@ fn check_exchanged(
     fact: &mut Fact<'_>,
     places: &mut Places<Position, u8>,
 ) -> Result<(), CaseFault> {
-    fact.same(places.exchange(TWICE, Some(5))?, Some(4));
-    fact.same(places.exchange(NEXT, Some(6))?, None);
-    fact.same(places.exchange(TWICE, None)?, Some(5));
-    fact.same(places.exchange(TWICE, None)?, None);
+    for (key, value, before) in EXCHANGES {
+        fact.same(places.exchange(key, value)?, before);
+    }
     fact.same(places.get(NEXT).copied(), Some(6));
     fact.same(places.iter().count(), 3);
     Ok(())
@@ -61,21 +68,13 @@ fn check_removed(fact: &mut Fact<'_>, places: &mut Places<Position, u8>) {
     fact.holds(places.is_empty());
 }
 
-fn what_was_set_last_is_found_until_it_is_removed(
-    alloc: Global,
-    report: &mut Report,
-) -> Result<(), CaseFault> {
+/// What was set last is found until it is removed.
+pub(crate) fn check_places(alloc: Global, report: &mut Report) -> Result<(), CaseFault> {
     let mut fact = Fact::new(report, "what was set last is found until it is removed");
     fact.holds(Places::<Position, u8>::new(alloc).is_empty());
     let mut places = set_values(alloc)?;
     check_found(&mut fact, &places);
     check_exchanged(&mut fact, &mut places)?;
     check_removed(&mut fact, &mut places);
-    Ok(())
-}
-
-/// All facts of this file.
-pub(crate) fn check_places(alloc: Global, report: &mut Report) -> Result<(), CaseFault> {
-    what_was_set_last_is_found_until_it_is_removed(alloc, report)?;
     Ok(())
 }

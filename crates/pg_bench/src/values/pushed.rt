@@ -7,6 +7,27 @@ use pg_testing::refusing::Refusing;
 use pg_testing::report::Report;
 use std::alloc::Global;
 
+/// A row, and what the call returns that pushes it.
+type Push = (&'static [&'static str], Result<(), PushFault>);
+
+/// Two rows of one length.
+const EVEN: [Push; 2] = [(&["a", "b"], Ok(())), (&["c", "d"], Ok(()))];
+
+/// Rows below one of two cells.
+const UNEVEN: [Push; 4] = [
+    (&["c"], Err(PushFault::Ragged(1))),
+    (&["c", "d"], Ok(())),
+    (&["e", "f", "g"], Err(PushFault::Ragged(2))),
+    (&[], Err(PushFault::Ragged(2))),
+];
+
+/// Rows without cells, and one with a cell.
+const EMPTY: [Push; 3] = [
+    (&[], Ok(())),
+    (&["a"], Err(PushFault::Ragged(1))),
+    (&[], Ok(())),
+];
+
 // Pushes a row of these texts.
 fn push(
     records: &mut VecRecords<&'static str>,
@@ -19,13 +40,24 @@ fn push(
     }
 }
 
+// Pushes rows one after the other. Two rows are there afterwards.
+fn check_pushes(
+    fact: &mut Fact<'_>,
+    records: &mut VecRecords<&'static str>,
+    alloc: Global,
+    rows: &[Push],
+) {
+    for (row, expected) in rows {
+        fact.same(push(records, alloc, row), *expected);
+    }
+    fact.same((&*records).count_rows(), 2);
+}
+
 fn rows_of_the_first_ones_length_are_pushed(alloc: Global, report: &mut Report) {
     let mut fact = Fact::new(report, "rows of the first ones length are pushed");
     let mut records = VecRecords::new(Vec::new(alloc)).unwrap();
-    fact.same(push(&mut records, alloc, &["a", "b"]), Ok(()));
-    fact.same(push(&mut records, alloc, &["c", "d"]), Ok(()));
+    check_pushes(&mut fact, &mut records, alloc, &EVEN);
     let pushed = &records;
-    fact.same(pushed.count_rows(), 2);
     fact.same(pushed.count_columns(), 2);
     if pushed.count_rows() == 2 && pushed.count_columns() == 2 {
         fact.same(pushed.get_text(Position::new(1, 0)), "c");
@@ -38,25 +70,14 @@ fn another_length_is_refused_with_its_row(
 ) -> Result<(), CaseFault> {
     let mut fact = Fact::new(report, "another length is refused with its row");
     let mut records = VecRecords::new(vec![in alloc; vec![in alloc; "a", "b"]?]?).unwrap();
-    let ragged = push(&mut records, alloc, &["c"]);
-    fact.same(ragged, Err(PushFault::Ragged(1)));
-    fact.same(push(&mut records, alloc, &["c", "d"]), Ok(()));
-    let ragged = push(&mut records, alloc, &["e", "f", "g"]);
-    fact.same(ragged, Err(PushFault::Ragged(2)));
-    let ragged = push(&mut records, alloc, &[]);
-    fact.same(ragged, Err(PushFault::Ragged(2)));
-    fact.same((&records).count_rows(), 2);
+    check_pushes(&mut fact, &mut records, alloc, &UNEVEN);
     Ok(())
 }
 
 fn rows_without_cells_stay_alone(alloc: Global, report: &mut Report) {
     let mut fact = Fact::new(report, "rows without cells stay alone");
     let mut records = VecRecords::new(Vec::new(alloc)).unwrap();
-    fact.same(push(&mut records, alloc, &[]), Ok(()));
-    let ragged = push(&mut records, alloc, &["a"]);
-    fact.same(ragged, Err(PushFault::Ragged(1)));
-    fact.same(push(&mut records, alloc, &[]), Ok(()));
-    fact.same((&records).count_rows(), 2);
+    check_pushes(&mut fact, &mut records, alloc, &EMPTY);
     fact.same((&records).count_columns(), 0);
 }
 

@@ -6,7 +6,6 @@ use pg_layout::{
     trim_line,
 };
 use pg_testing::report::Report;
-use std::alloc::Global;
 
 /// Texts and how many lines they have.
 const LINES: [(&str, usize); 6] = [
@@ -86,7 +85,7 @@ const FIRST_LINES: [(&str, &str); 7] = [
     ("a\rb\nc", "a\rb"),
 ];
 
-fn a_text_is_cut_at_each_line_feed(alloc: Global, report: &mut Report) {
+fn a_text_is_cut_at_each_line_feed(report: &mut Report) {
     let mut fact = Fact::new(report, "a text is cut at each line feed");
     for (text, lines) in LINES {
         fact.same_at(text, count_lines(text), lines);
@@ -99,7 +98,7 @@ fn a_text_is_cut_at_each_line_feed(alloc: Global, report: &mut Report) {
     fact.same(lines.next(), None);
 }
 
-fn a_line_takes_the_columns_of_a_terminal(alloc: Global, report: &mut Report) {
+fn a_line_takes_the_columns_of_a_terminal(report: &mut Report) {
     let mut fact = Fact::new(report, "a line takes the columns of a terminal");
     for (line, width) in LINE_WIDTHS {
         fact.same_at(line, get_line_width(line), width);
@@ -107,28 +106,28 @@ fn a_line_takes_the_columns_of_a_terminal(alloc: Global, report: &mut Report) {
     }
 }
 
-fn a_text_is_as_wide_as_its_widest_line(alloc: Global, report: &mut Report) {
+fn a_text_is_as_wide_as_its_widest_line(report: &mut Report) {
     let mut fact = Fact::new(report, "a text is as wide as its widest line");
     for (text, width) in TEXT_WIDTHS {
         fact.same_at(text, get_text_width(text), width);
     }
 }
 
-fn a_line_of_white_space_is_blank(alloc: Global, report: &mut Report) {
+fn a_line_of_white_space_is_blank(report: &mut Report) {
     let mut fact = Fact::new(report, "a line of white space is blank");
     for (line, blank) in BLANK {
         fact.same_at(line, is_blank(line), blank);
     }
 }
 
-fn a_line_is_trimmed_of_white_space_at_its_ends(alloc: Global, report: &mut Report) {
+fn a_line_is_trimmed_of_white_space_at_its_ends(report: &mut Report) {
     let mut fact = Fact::new(report, "a line is trimmed of white space at its ends");
     for (line, trimmed) in TRIMMED {
         fact.same_at(line, trim_line(line), trimmed);
     }
 }
 
-fn the_first_line_loses_the_return_before_its_line_feed(alloc: Global, report: &mut Report) {
+fn the_first_line_loses_the_return_before_its_line_feed(report: &mut Report) {
     let mut fact = Fact::new(
         report,
         "the first line loses the return before its line feed",
@@ -138,7 +137,7 @@ fn the_first_line_loses_the_return_before_its_line_feed(alloc: Global, report: &
     }
 }
 
-fn a_cursor_gives_line_after_line(alloc: Global, report: &mut Report) {
+fn a_cursor_gives_line_after_line(report: &mut Report) {
     let mut fact = Fact::new(report, "a cursor gives line after line");
     let text = "a\n\nb";
     let mut cursor = LineCursor::new();
@@ -153,12 +152,12 @@ fn a_cursor_gives_line_after_line(alloc: Global, report: &mut Report) {
 }
 
 /// All facts of this file.
-pub(crate) fn check_texts(alloc: Global, report: &mut Report) {
-    a_text_is_cut_at_each_line_feed(alloc, report);
-    a_line_takes_the_columns_of_a_terminal(alloc, report);
-    a_text_is_as_wide_as_its_widest_line(alloc, report);
-    a_line_of_white_space_is_blank(alloc, report);
-    a_line_is_trimmed_of_white_space_at_its_ends(alloc, report);
-    the_first_line_loses_the_return_before_its_line_feed(alloc, report);
-    a_cursor_gives_line_after_line(alloc, report);
+pub(crate) fn check_texts(report: &mut Report) {
+    a_text_is_cut_at_each_line_feed(report);
+    a_line_takes_the_columns_of_a_terminal(report);
+    a_text_is_as_wide_as_its_widest_line(report);
+    a_line_of_white_space_is_blank(report);
+    a_line_is_trimmed_of_white_space_at_its_ends(report);
+    the_first_line_loses_the_return_before_its_line_feed(report);
+    a_cursor_gives_line_after_line(report);
 }
