@@ -95,7 +95,7 @@ fn check_long(
     let alike = Alike {
         cell,
         count: ROWS,
-        hint: is_hinted.then_some(ROWS),
+        hint: if is_hinted { Some(ROWS) } else { None },
     };
     let rows = rows_of(alloc, cell, ROWS)?;
     let memory = Refusing::from_on(alloc, 2);
