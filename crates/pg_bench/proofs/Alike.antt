@@ -1,7 +1,7 @@
--- Rows and cells that are all alike, as `Repeated` gives them.
+-- Rows and cells that are all alike, as `Repeated` gives them, and those of records that are counted as they are read.
 use Rattle.std.proofs.Common.{◌≡◌, ℕ, zero, suc, ◌+◌, List, [], ◌∷◌, map, length, replicate, Option, None, Some, MatchOption, IfSome, refl, sym, ap, ◌∙◌, subst, add-one}
 use Rattle.std.proofs.lemmas.List.{length-map, length-replicate}
-use Rattle.pg_layout.specs.Records.{AlwaysGives, columns_of}
+use Rattle.pg_layout.specs.Records.{AlwaysGives, columns_of, Gives}
 use Rattle.pg_layout.specs.Text.{Text}
 use Rattle.pg_layout.proofs.Given.{given-rest}
 use Rattle.pg_layout.proofs.GivenArrays.{Even}
@@ -10,6 +10,7 @@ use Rattle.pg_picture.specs.Fits.{misfit_of}
 use Rattle.pg_picture.specs.Sizes.{table_of}
 use Rattle.pg_picture.specs.Table.{Table}
 use Rattle.pg_testing.specs.declared.repeated.Repeated.{Repeated}
+use Rattle.std.specs.Iterator.{Count}
 
 -- how an iterator gives what it repeats
 abbrev pub repeats : {C : Type 0} → Repeated C → Option C → Repeated C → Type 0
@@ -63,3 +64,28 @@ count-left text s = length-map (left_of s) (λ row. map text row) ∙ length-rep
 
 pub exact-alike : {C : Type 0} (text : C → Text) (s : Repeated (List C)) (count : ℕ) (hint : Option ℕ) → s.left ≡ count → IfSome hint (λ n. n ≡ count) → IfSome hint (λ n. n ≡ length (map (λ row. map text row) (left_of s)))
 exact-alike text s count hint left exact = subst (λ (m : ℕ). IfSome hint (λ n. n ≡ m)) (sym (count-left text s ∙ left)) exact
+
+-- ---- records that are counted as they are read
+
+module _ {C A B W : Type 0} (P : A → B → Type 0) (steps : C → Option A → C → Type 0) (inner : W → C) where
+  abbrev pub counted_steps : W → Option A → W → Type 0
+  counted_steps s r t = steps (inner s) r (inner t)
+
+  pub cells-given : (w : W) (ys : List B) → AlwaysGives P steps (inner w) ys → AlwaysGives P counted_steps w ys
+  cells-given w [] none = λ x t step. none x (inner t) step
+  cells-given w (y ∷ ys) (some, more) = (λ t step. some (inner t) step, λ x t step. let (is, rest) = more x (inner t) step in (is, cells-given t ys rest))
+
+  module _ (can : C → Type 0) (left : C → Count) where
+    abbrev pub is_counted : W → List B → Type 0
+    is_counted = Gives P (λ s. can (inner s)) counted_steps (λ s. left (inner s))
+
+    cells-counted : (w : W) (ys : List B) → Gives P can steps left (inner w) ys → is_counted w ys
+    cells-counted w ys gives = record { can_next = gives.can_next; ends = gives.ends; gives = cells-given w ys gives.gives }
+
+    module _ {R V : Type 0} (next : R → Option C → R → Type 0) (rows : V → R) where
+      abbrev pub counted_next : V → Option W → V → Type 0
+      counted_next s r t = MatchOption r (next (rows s) None (rows t)) (λ row. next (rows s) (Some (inner row)) (rows t))
+
+      pub rows-given : (v : V) (ys : List (List B)) → AlwaysGives (Gives P can steps left) next (rows v) ys → AlwaysGives is_counted counted_next v ys
+      rows-given v [] none = λ row t step. none (inner row) (rows t) step
+      rows-given v (y ∷ ys) (some, more) = (λ t step. some (rows t) step, λ row t step. let (is, rest) = more (inner row) (rows t) step in (cells-counted row y is, rows-given t ys rest))

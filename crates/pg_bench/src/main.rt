@@ -22,8 +22,6 @@
 
 mod case;
 mod fault;
-mod numbers;
-mod rows;
 mod scripts;
 mod settings;
 mod speed;
@@ -32,6 +30,7 @@ mod subject;
 mod tables;
 mod texts;
 mod values;
+mod words;
 
 use crate::fault::CaseFault;
 use std::process::ExitCode;

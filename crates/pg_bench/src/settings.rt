@@ -48,9 +48,22 @@
 //! - `lookup_vertical_char 1 2 8`: what was set for each of 8 glyphs, a point for none, and of colours the
 //!   prefixes; `lookups 1 2 8`: these of the horizontal, its colours, the vertical and its colours.
 
+use pg_config::SpannedConfig;
+use pg_layout::ANSIBuf;
+use pg_testing::refusing::Refusing;
+use std::alloc::Global;
+
 mod answer;
 mod borders;
 pub(crate) mod case;
 mod cells;
-mod memory;
 mod question;
+
+/// The memory of configurations and of colours.
+pub(crate) type Memory<'m> = &'m Refusing<Global>;
+
+/// A configuration that takes it.
+pub(crate) type Config<'m> = SpannedConfig<Memory<'m>>;
+
+/// A colour that takes it.
+pub(crate) type Color<'m> = ANSIBuf<Memory<'m>>;

@@ -5,10 +5,9 @@
 
 use crate::case::Case;
 use crate::fault::CaseFault;
-use crate::numbers::number_of;
 use crate::speed::case::{CASES, Case as Built};
-use crate::speed::checksum::checksum;
 use crate::speed::measure::text_of;
+use crate::words::number_of;
 use pg_testing::Line;
 use pg_testing::report::Report;
 use std::alloc::Global;
@@ -16,13 +15,17 @@ use std::io::{self, Write};
 
 mod anew;
 mod case;
-mod checksum;
 mod made_records;
 mod measure;
 mod settings;
 mod table;
 mod telling;
 mod texts;
+
+// Those of FNV-1a, a checksum of 64 bits.
+const START: u64 = 0xcbf2_9ce4_8422_2325;
+
+const PRIME: u64 = 0x0000_0100_0000_01b3;
 
 /// The tables whose texts are compared.
 #[derive(Clone, Copy)]
@@ -100,4 +103,13 @@ pub(crate) fn list<W: Write>(out: &mut W) -> io::Result<()> {
         writeln!(out, "{}", built.0)?;
     }
     Ok(())
+}
+
+// The checksum of these bytes.
+fn checksum(bytes: &[u8]) -> u64 {
+    let mut sum = START;
+    for byte in bytes {
+        sum = (sum ^ u64::from(*byte)).wrapping_mul(PRIME);
+    }
+    sum
 }

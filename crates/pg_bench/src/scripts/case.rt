@@ -2,9 +2,9 @@
 
 use crate::case::Case;
 use crate::fault::CaseFault;
-use crate::rows::owned_row;
 use crate::scripts::failing::slip_of;
 use crate::scripts::run::{Given, Kind, Run};
+use crate::words::owned_row;
 use pg_testing::ledger::Rule;
 use pg_testing::report::Report;
 use std::alloc::{AllocError, Global};

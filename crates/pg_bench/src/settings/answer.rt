@@ -1,7 +1,7 @@
 //! Answers of getters, in the words of the input.
 
 use crate::fault::CaseFault;
-use crate::settings::memory::Color;
+use crate::settings::Color;
 use pg_config::Span;
 use pg_layout::{
     ANSIFmt, AlignmentHorizontal, AlignmentVertical, Formatting, Indent, Offset, Sides,

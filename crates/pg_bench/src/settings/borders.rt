@@ -3,8 +3,8 @@
 ghost use Rattle.std.specs.Prelude.{◌<◌};
 
 use crate::fault::CaseFault;
+use crate::settings::Config;
 use crate::settings::answer::Answer;
-use crate::settings::memory::Config;
 use pg_layout::{Borders, Position};
 
 /// Writes the places that have a glyph, as `top=-`.

@@ -3,8 +3,8 @@
 use crate::case::{Case, Wrong};
 use crate::fault::CaseFault;
 use crate::settings::answer::Answer;
-use crate::settings::memory::{Config, Memory};
 use crate::settings::question::write_answers;
+use crate::settings::{Config, Memory};
 use pg_config::SpannedConfig;
 use pg_layout::{Colors, ColorsMap};
 use pg_testing::report::Report;

@@ -2,7 +2,7 @@
 
 use crate::fault::CaseFault;
 use crate::settings::answer::Answer;
-use crate::settings::memory::{Config, Memory};
+use crate::settings::{Config, Memory};
 use pg_config::Spans;
 use pg_layout::{Position, Sides};
 

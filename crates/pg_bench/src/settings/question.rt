@@ -1,11 +1,11 @@
 //! Questions: which getter is asked, and of what.
 
 use crate::fault::CaseFault;
-use crate::numbers::set_numbers;
+use crate::settings::Config;
 use crate::settings::answer::Answer;
 use crate::settings::borders::{write_borders, write_of_crossing, write_of_side};
 use crate::settings::cells::{write_of_place, write_spans};
-use crate::settings::memory::Config;
+use crate::words::set_numbers;
 use std::alloc::Global;
 
 /// Writes what a getter returns, once for each list of numbers that the question has.

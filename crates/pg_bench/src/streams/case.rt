@@ -2,9 +2,9 @@
 
 use crate::case::Case;
 use crate::fault::CaseFault;
-use crate::numbers::set_numbers;
 use crate::streams::printing::check_others;
 use crate::streams::way::Way;
+use crate::words::set_numbers;
 use pg_config::SpannedConfig;
 use pg_layout::ConstantDimension;
 use pg_testing::report::Report;

@@ -1,9 +1,9 @@
 //! Streams that show each row at once.
 
-use crate::rows::owned_row;
 use crate::streams::case::{Step, StepKind, StreamCase};
 use crate::streams::watch::{Buffer, Memory, Watch};
 use crate::streams::way::Way;
+use crate::words::owned_row;
 use pg_layout::{ConstantDimension, NoColors};
 use pg_stream::{LiveStream, SizedStream, StreamFault};
 use std::alloc::Global;

@@ -1,9 +1,9 @@
 //! Grids that say whether each line of a table is shown, and print it where it is.
 
-use crate::rows::owned_row;
 use crate::streams::case::{StepKind, StreamCase};
 use crate::streams::watch::{Buffer, Watch};
 use crate::tables::grid::{Grid, GridCall, SizedTable};
+use crate::words::owned_row;
 use pg_config::CompactConfig;
 use pg_grid::{Unshown, WholeFault, WholePrinter};
 use pg_layout::{NoColors, VecRecords};

@@ -2,12 +2,11 @@
 
 use crate::case::Case;
 use crate::fault::CaseFault;
-use crate::numbers::{number_of, set_numbers};
-use crate::rows::{owned_row, push_line};
 use crate::tables::compact;
 use crate::tables::grid::Grid;
 use crate::tables::refusal::Refusal;
 use crate::tables::within::Within;
+use crate::words::{number_of, owned_row, push_line, set_numbers};
 use pg_config::{CompactConfig, SpannedConfig};
 use pg_layout::{ColorsMap, ConstantDimension};
 use pg_table::Table;

@@ -1,11 +1,11 @@
 //! Tables within a width.
 
 use crate::fault::CaseFault;
-use crate::numbers::number_of;
 use crate::tables::case::TableCase;
 use crate::tables::drawer::Builder;
 use crate::tables::refusal::Refusal;
 use crate::texts::fit_call::breaking_of;
+use crate::words::number_of;
 use pg_layout::{ColorsMap, ConstantDimension, VecRecords};
 use pg_table::{FittedTable, NaturalTable, Overflow, TableFault};
 use pg_testing::refusing::Refusing;

@@ -2,9 +2,8 @@
 
 use crate::case::Case;
 use crate::fault::CaseFault;
-use crate::numbers::number_of;
-use crate::rows::push_line;
 use crate::texts::fit_call::{FitCall, RefusedFit, breaking_of};
+use crate::words::{number_of, push_line};
 use pg_fit::least_width;
 use pg_testing::report::Report;
 use pg_testing::trial::Trial;

@@ -1,7 +1,7 @@
 //! Calls that fit a text.
 
 use crate::fault::CaseFault;
-use crate::numbers::number_of;
+use crate::words::number_of;
 use pg_fit::{Breaking, cut, cut_front, cut_middle, visible, without_escapes, wrap};
 use pg_testing::refusing::Refusing;
 use pg_testing::trial::{Outcome, Trial};

@@ -2,8 +2,8 @@
 //! can't be written.
 
 use crate::fault::CaseFault;
-use crate::rows::owned_row;
 use crate::values::Fact;
+use crate::words::owned_row;
 use pg_show::{Ending, Fault, run};
 use pg_testing::ledger::Rule;
 use pg_testing::report::Report;

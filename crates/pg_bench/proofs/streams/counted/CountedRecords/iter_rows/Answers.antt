@@ -1,7 +1,7 @@
 use Rattle.std.proofs.Common.{◌≡◌}
 use Rattle.pg_bench.specs.declared.streams.counted.CountedCells.{CountedCells}
 use Rattle.pg_bench.specs.declared.streams.counted.CountedRows.{CountedRows}
-use Rattle.pg_bench.proofs.Counting.{rows-given}
+use Rattle.pg_bench.proofs.Alike.{rows-given}
 use Rattle.pg_bench.proofs.streams.counted.CountedRecords.iter_rows.Goals as goal
 
 pub returns : goal.returns
