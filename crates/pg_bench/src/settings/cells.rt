@@ -68,18 +68,15 @@ fn write_of_span(config: &Config<'_>, getter: &str, pos: Position, answer: &mut 
 
 // Writes whether this is so of a place.
 fn write_truth_of_place(config: &Config<'_>, getter: &str, pos: Position, answer: &mut Answer) {
-    match getter {
-        "is_cell_visible" => answer.push_truth(config.is_cell_visible(pos)),
-        "is_cell_covered_by_column_span" => {
-            answer.push_truth(config.is_cell_covered_by_column_span(pos))
-        }
-        "is_cell_covered_by_row_span" => answer.push_truth(config.is_cell_covered_by_row_span(pos)),
-        "is_cell_covered_by_both_spans" => {
-            answer.push_truth(config.is_cell_covered_by_both_spans(pos))
-        }
-        "is_overridden_horizontal" => answer.push_truth(config.is_overridden_horizontal(pos)),
-        _ => answer.fail(CaseFault::Unknown),
-    }
+    let is_so = match getter {
+        "is_cell_visible" => config.is_cell_visible(pos),
+        "is_cell_covered_by_column_span" => config.is_cell_covered_by_column_span(pos),
+        "is_cell_covered_by_row_span" => config.is_cell_covered_by_row_span(pos),
+        "is_cell_covered_by_both_spans" => config.is_cell_covered_by_both_spans(pos),
+        "is_overridden_horizontal" => config.is_overridden_horizontal(pos),
+        _ => return answer.fail(CaseFault::Unknown),
+    };
+    answer.push_truth(is_so);
 }
 
 /// Writes all rectangles in their order.

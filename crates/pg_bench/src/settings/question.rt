@@ -55,16 +55,17 @@ fn write_of_table(config: &Config<'_>, getter: &str, answer: &mut Answer) {
 
 // Writes whether this is so of the whole table.
 fn write_truth_of_table(config: &Config<'_>, getter: &str, answer: &mut Answer) {
-    match getter {
-        "has_column_lines" => answer.push_truth(config.has_column_lines()),
-        "has_border_colors" => answer.push_truth(config.has_border_colors()),
-        "has_padding_color" => answer.push_truth(config.has_padding_color()),
-        "has_justification" => answer.push_truth(config.has_justification()),
-        "has_offset_chars" => answer.push_truth(config.has_offset_chars()),
-        "has_column_spans" => answer.push_truth(config.has_column_spans()),
-        "has_row_spans" => answer.push_truth(config.has_row_spans()),
-        _ => answer.fail(CaseFault::Unknown),
-    }
+    let is_so = match getter {
+        "has_column_lines" => config.has_column_lines(),
+        "has_border_colors" => config.has_border_colors(),
+        "has_padding_color" => config.has_padding_color(),
+        "has_justification" => config.has_justification(),
+        "has_offset_chars" => config.has_offset_chars(),
+        "has_column_spans" => config.has_column_spans(),
+        "has_row_spans" => config.has_row_spans(),
+        _ => return answer.fail(CaseFault::Unknown),
+    };
+    answer.push_truth(is_so);
 }
 
 // Writes how many lines there are in a table of so many rows or columns.

@@ -104,8 +104,8 @@ fn check_long(
     let is_drawn = draw_given(&memory, alike, &rows, &config, &dimension, &mut buf)?;
     report.compare(PLACE, second, is_drawn, true);
     report.compare(PLACE, second, memory.requests(), 2);
-    let text = long_text(alloc, second)?;
-    report.compare(PLACE, second, buf.as_str(), text.as_str());
+    let text = long_text(alloc, second).ok();
+    report.compare(PLACE, second, Some(buf.as_str()), text.as_deref());
     Ok(())
 }
 

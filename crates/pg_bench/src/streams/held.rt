@@ -40,7 +40,7 @@ impl<'a> StreamCase<'a> {
         watch.goes(0, buf);
         let mut held = 0;
         for (number, step) in self.steps.iter().enumerate() {
-            if step.kind == StepKind::Row {
+            if matches!(step.kind, StepKind::Row) {
                 stream = match push(watch.memory, stream, way, step, buf) {
                     Ok(stream) => stream,
                     Err(fault) => return watch.stops(held, &fault, buf),
@@ -122,7 +122,7 @@ impl<'a> StreamCase<'a> {
     ) -> Result<Vec<Vec<&'m str, Memory<'m>>, Memory<'m>>, StreamFault> {
         let mut rows = Vec::new(memory);
         for step in &self.steps {
-            if step.kind == StepKind::Row {
+            if matches!(step.kind, StepKind::Row) {
                 rows.push(step.cells.as_slice().to_vec(memory)?)?;
             }
         }

@@ -32,7 +32,7 @@ impl<'a> StreamCase<'a> {
         };
         watch.goes(0, buf);
         for (number, step) in self.steps.iter().enumerate() {
-            if step.kind == StepKind::Row {
+            if matches!(step.kind, StepKind::Row) {
                 let is_lent = matches!(way, Way::Lent) && !step.is_pushed;
                 let shown = stream.show(self.alloc, is_lent, step, buf);
                 watch.ends(number, shown, buf);

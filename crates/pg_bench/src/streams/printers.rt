@@ -32,7 +32,7 @@ impl<'a> StreamCase<'a> {
         watch.goes(0, buf);
         self.see_note(0, &printer, watch);
         for (number, step) in self.steps.iter().enumerate() {
-            if step.kind == StepKind::Row {
+            if matches!(step.kind, StepKind::Row) {
                 self.see_shown((number, step), &printer, watch);
                 printer = match self.try_row(way, printer, step, buf) {
                     Ok(printer) => {
@@ -96,7 +96,7 @@ impl<'a> StreamCase<'a> {
     // Ends the table: behind its last row, or as the last step says.
     fn end<'m>(&'m self, printer: Printer<'m>, buf: &mut Buffer<'m>) -> Result<(), StreamFault> {
         if let Some(step) = self.steps.last() {
-            if step.kind == StepKind::Close {
+            if matches!(step.kind, StepKind::Close) {
                 return printer.close(buf);
             }
         }

@@ -63,7 +63,7 @@ impl StreamCase<'_> {
     fn records(&self) -> Option<VecRecords<String>> {
         let mut rows = Vec::new(self.alloc);
         for step in &self.steps {
-            if step.kind == StepKind::Row {
+            if matches!(step.kind, StepKind::Row) {
                 rows.push(owned_row(self.alloc, &step.cells).ok()?).ok()?;
             }
         }

@@ -9,26 +9,34 @@ use pg_testing::report::Report;
 use pg_testing::trial::{Outcome, Trial};
 use std::alloc::{Allocator, Global};
 
-/// Calls of a table.
+/// Calls that change a table.
 #[derive(Clone, Copy)]
 enum Call {
+    /// None: the table stays as it is.
+    Nothing,
     /// Runs of equal texts in a column become one cell.
     Merged(usize),
-    /// The columns become rows.
+    /// A panel above centred texts and others at the right.
+    Panel,
+}
+
+/// Calls that make a text of a table.
+#[derive(Clone, Copy)]
+enum Export {
+    /// Its picture.
+    Picture,
+    /// The picture of its columns as rows.
     Transposed,
     /// HTML.
     Html,
-    /// HTML of merged runs in column 0.
-    MergedHtml,
-    /// HTML of a panel above centred texts and others at the right.
-    PanelHtml,
 }
 
-/// Rows, a call, and the text of what it makes.
+/// Rows, the calls of their table, and the text that they make.
 struct Case {
     name: &'static str,
     rows: &'static [&'static [&'static str]],
     call: Call,
+    export: Export,
     text: &'static str,
 }
 
@@ -37,12 +45,14 @@ const CASES: &[Case] = &[
         name: "a run of equal texts becomes one cell",
         rows: &[&["a", "1"], &["a", "2"], &["b", "3"]],
         call: Call::Merged(0),
+        export: Export::Picture,
         text: "+-+-+\n|a|1|\n+ +-+\n| |2|\n+-+-+\n|b|3|\n+-+-+",
     },
     Case {
         name: "empty texts are no run and the last row ends one",
         rows: &[&[""], &[""], &["x"], &["x"], &["y"], &["y"], &["y"]],
         call: Call::Merged(0),
+        export: Export::Picture,
         // Rows without a cell of their own have no height, so merged texts are on the lines between them.
         text: "+-+\n| |\n+-+\n| |\n+-+\n+x+\n+-+\n+y+\n+ +\n+-+",
     },
@@ -50,57 +60,77 @@ const CASES: &[Case] = &[
         name: "a column that is not there has no run",
         rows: &[&["a"], &["a"]],
         call: Call::Merged(1),
+        export: Export::Picture,
         text: "+-+\n|a|\n+-+\n|a|\n+-+",
     },
     Case {
         name: "columns become rows",
         rows: &[&["a", "b"], &["c", "d"], &["e", "f"]],
-        call: Call::Transposed,
+        call: Call::Nothing,
+        export: Export::Transposed,
         text: "+-+-+-+\n|a|c|e|\n+-+-+-+\n|b|d|f|\n+-+-+-+",
     },
     Case {
         name: "no text of a cell is markup",
         rows: &[&["<b>", "\"q\""], &["a & b", "é"]],
-        call: Call::Html,
+        call: Call::Nothing,
+        export: Export::Html,
         text: "<table>\n<tr><td>&lt;b&gt;</td><td>&quot;q&quot;</td></tr>\n<tr><td>a &amp; b</td><td>é</td></tr>\n</table>",
     },
     Case {
         name: "a merged cell has its rows",
         rows: &[&["a", "1"], &["a", "2"]],
-        call: Call::MergedHtml,
+        call: Call::Merged(0),
+        export: Export::Html,
         text: "<table>\n<tr><td rowspan=\"2\">a</td><td>1</td></tr>\n<tr><td>2</td></tr>\n</table>",
     },
     Case {
         name: "a panel has its columns and texts have their sides",
         rows: &[&["Bill", ""], &["tea", "3"]],
-        call: Call::PanelHtml,
+        call: Call::Panel,
+        export: Export::Html,
         text: "<table>\n<tr><td class=\"center\" colspan=\"2\">Bill</td></tr>\n<tr><td class=\"center\">tea</td><td class=\"right\">3</td></tr>\n</table>",
     },
 ];
 
-// The text of what a call makes.
-fn text_of<A: Allocator + Copy>(alloc: A, case: &Case) -> Result<String<A>, TableFault> {
+// A table of these rows.
+fn table_of<A: Allocator + Copy>(
+    alloc: A,
+    texts: &[&[&'static str]],
+) -> Result<Table<&'static str, A>, TableFault> {
     let mut rows = Vec::new(alloc);
-    for row in case.rows {
+    for row in texts {
         rows.push(row.to_vec(alloc)?)?;
     }
-    let table = Table::new(alloc, rows)?;
-    match case.call {
-        Call::Merged(column) => table.with_merged_column(column)?.to_string(alloc),
-        Call::Transposed => table.transposed(alloc)?.to_string(alloc),
-        Call::MergedHtml => Ok(table.with_merged_column(0)?.to_html(alloc)?),
-        Call::PanelHtml => {
-            let table = table
-                .with_alignment(AlignmentHorizontal::Center)
-                .with_column_alignment(1, AlignmentHorizontal::Right)?
-                .with_panel(0)?;
-            Ok(table.to_html(alloc)?)
-        }
-        _ => Ok(table.to_html(alloc)?),
+    Table::new(alloc, rows)
+}
+
+// The table behind the call that changes it.
+fn changed<A: Allocator + Copy>(
+    table: Table<&'static str, A>,
+    call: Call,
+) -> Result<Table<&'static str, A>, TableFault> {
+    match call {
+        Call::Nothing => Ok(table),
+        Call::Merged(column) => table.with_merged_column(column),
+        Call::Panel => table
+            .with_alignment(AlignmentHorizontal::Center)
+            .with_column_alignment(1, AlignmentHorizontal::Right)?
+            .with_panel(0),
     }
 }
 
-/// A call whose requests for memory are refused in turn.
+// The text of what the calls make.
+fn text_of<A: Allocator + Copy>(alloc: A, case: &Case) -> Result<String<A>, TableFault> {
+    let table = changed(table_of(alloc, case.rows)?, case.call)?;
+    match case.export {
+        Export::Picture => table.to_string(alloc),
+        Export::Transposed => table.transposed(alloc)?.to_string(alloc),
+        Export::Html => table.to_html(alloc).map_err(TableFault::from),
+    }
+}
+
+/// Calls whose requests for memory are refused in turn.
 #[derive(Clone, Copy)]
 struct Refused<'c> {
     case: &'c Case,
@@ -114,7 +144,7 @@ impl Trial for Refused<'_> {
 }
 
 impl Refused<'_> {
-    // The call makes its text, or memory was refused.
+    // The calls make their text, or memory was refused.
     fn made(&self, memory: &Refusing<Global>) -> Outcome {
         let made = text_of(memory, self.case);
         let has_refused = memory.has_refused();
@@ -126,7 +156,7 @@ impl Refused<'_> {
     }
 }
 
-// What a call makes, and that it reports each request for memory that is refused.
+// What the calls make, and that they report each request for memory that is refused.
 fn check_case(alloc: Global, case: &Case, report: &mut Report) {
     let mut fact = Fact::new(report, case.name);
     let text = text_of(alloc, case).ok();
@@ -136,7 +166,7 @@ fn check_case(alloc: Global, case: &Case, report: &mut Report) {
 
 fn a_table_gives_its_texts(alloc: Global, report: &mut Report) -> Result<(), CaseFault> {
     let mut fact = Fact::new(report, "a table gives its texts");
-    let table = Table::new(alloc, vec![in alloc; vec![in alloc; "a", "b"]?]?)?;
+    let table = table_of(alloc, &[&["a", "b"]])?;
     fact.same(table.text(Position::new(0, 1)), Some("b"));
     fact.same(table.text(Position::new(0, 2)), None);
     fact.same(table.text(Position::new(1, 0)), None);
