@@ -21,7 +21,6 @@
 #![tactic(auto)]
 
 mod case;
-mod fault;
 mod scripts;
 mod settings;
 mod speed;
@@ -32,7 +31,7 @@ mod texts;
 mod values;
 mod words;
 
-use crate::fault::CaseFault;
+use crate::case::CaseFault;
 use std::process::ExitCode;
 use std::rt::Env;
 use std::{env, io};

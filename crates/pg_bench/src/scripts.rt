@@ -40,5 +40,4 @@
 //! Each run is one answer.
 
 pub(crate) mod case;
-mod failing;
 mod run;

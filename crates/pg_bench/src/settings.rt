@@ -54,9 +54,7 @@ use pg_testing::refusing::Refusing;
 use std::alloc::Global;
 
 mod answer;
-mod borders;
 pub(crate) mod case;
-mod cells;
 mod question;
 
 /// The memory of configurations and of colours.

@@ -3,8 +3,7 @@
 //! A line `NAME BYTES CHECKSUM` of the part `speed` builds the table of this name once, and compares how many bytes
 //! its text has and their checksum. With arguments the program builds one table as often as they say.
 
-use crate::case::Case;
-use crate::fault::CaseFault;
+use crate::case::{Case, CaseFault};
 use crate::speed::case::{CASES, Case as Built};
 use crate::speed::measure::text_of;
 use crate::words::number_of;
@@ -13,13 +12,9 @@ use pg_testing::report::Report;
 use std::alloc::Global;
 use std::io::{self, Write};
 
-mod anew;
 mod case;
-mod made_records;
 mod measure;
 mod settings;
-mod table;
-mod telling;
 mod texts;
 
 // Those of FNV-1a, a checksum of 64 bits.

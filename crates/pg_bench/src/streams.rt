@@ -48,17 +48,15 @@
 //! refused, a call answers that and leaves a beginning of the text, and so do all calls behind it, which append
 //! nothing; where none is, all is as expected; and one request comes at least, which is one more answer.
 //!
-//! Behind the sections comes what no section can say, in the modules `given`, `counted`, `taken` and `values`.
+//! Behind the sections comes what no section can say, in the modules `given`, `cells` and `values`.
 
 pub(crate) mod case;
-mod counted;
+mod cells;
 mod given;
 mod held;
 mod live;
 mod printers;
 mod printing;
-mod taken;
 mod values;
 mod watch;
-mod way;
 mod whole;

@@ -91,16 +91,10 @@
 //!
 //! A way that has none of these is an error, and so is one that has two of them.
 
-mod beginnings;
 mod builder;
-mod builder_call;
 pub(crate) mod case;
-mod compact;
-mod drawer;
 mod drawing;
 pub(crate) mod grid;
 pub(crate) mod refusal;
 mod refused;
-mod refused_calls;
 mod sizes;
-mod within;

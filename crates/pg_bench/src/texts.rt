@@ -24,4 +24,3 @@
 //! memory refused, which it has to say: two answers.
 
 pub(crate) mod case;
-pub(crate) mod fit_call;

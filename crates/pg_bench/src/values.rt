@@ -3,11 +3,9 @@
 
 pub(crate) mod calls;
 pub(crate) mod colors;
-pub(crate) mod endings;
 pub(crate) mod failing;
-pub(crate) mod given;
 pub(crate) mod places;
-pub(crate) mod pushed;
+pub(crate) mod records;
 pub(crate) mod scripts;
 pub(crate) mod texts;
 

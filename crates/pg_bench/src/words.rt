@@ -1,6 +1,6 @@
 //! What the words of a case say: numbers, and texts that are made line by line and row by row.
 
-use crate::fault::CaseFault;
+use crate::case::CaseFault;
 use std::alloc::{AllocError, Global};
 
 /// The number that a word writes.

@@ -1,9 +1,7 @@
 //! A script, and how its runs end.
 
-use crate::case::Case;
-use crate::fault::CaseFault;
-use crate::scripts::failing::slip_of;
-use crate::scripts::run::{Given, Kind, Run};
+use crate::case::{Case, CaseFault};
+use crate::scripts::run::{Given, Kind, Run, slip_of};
 use crate::words::owned_row;
 use pg_testing::ledger::Rule;
 use pg_testing::report::Report;

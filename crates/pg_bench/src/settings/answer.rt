@@ -1,6 +1,6 @@
 //! Answers of getters, in the words of the input.
 
-use crate::fault::CaseFault;
+use crate::case::CaseFault;
 use crate::settings::Color;
 use pg_config::Span;
 use pg_layout::{

@@ -1,7 +1,6 @@
 //! What lines set in a configuration, and what they ask it.
 
-use crate::case::{Case, Wrong};
-use crate::fault::CaseFault;
+use crate::case::{Case, CaseFault, Wrong};
 use crate::settings::answer::Answer;
 use crate::settings::question::write_answers;
 use crate::settings::{Config, Memory};

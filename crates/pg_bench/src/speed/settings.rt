@@ -1,12 +1,11 @@
-//! The settings of the tables.
+//! The settings of the tables, and what is set for single cells and rows.
 
-use crate::fault::CaseFault;
-use crate::speed::table::Table;
-use crate::speed::telling::position;
+use crate::case::CaseFault;
+use crate::speed::case::{Table, Telling};
 use pg_config::{CompactConfig, SpannedConfig};
 use pg_layout::{
-    ANSIBuf, ANSIStr, AlignmentHorizontal, AlignmentVertical, Borders, ColorsMap, Entity, Indent,
-    Position, Sides,
+    ANSIBuf, ANSIStr, AlignmentHorizontal, AlignmentVertical, Border, Borders, ColorsMap, Entity,
+    Indent, Position, Sides,
 };
 use pg_testing::settings::apply_all;
 use std::alloc::{AllocError, Global};
@@ -119,12 +118,8 @@ pub(crate) fn colors(alloc: Global, table: &Table) -> Result<ColorsMap, AllocErr
     Ok(colors)
 }
 
-/// Gives a cell one of seven colours.
-pub(crate) fn color_cell(
-    alloc: Global,
-    colors: &mut ColorsMap,
-    pos: Position,
-) -> Result<(), AllocError> {
+// Gives a cell one of seven colours.
+fn color_cell(alloc: Global, colors: &mut ColorsMap, pos: Position) -> Result<(), AllocError> {
     let prefix = PREFIXES[(pos.row % 7 + pos.col % 7) % 7];
     colors.set(pos, ANSIBuf::new(alloc, prefix, PLAIN)?)
 }
@@ -138,3 +133,108 @@ const PREFIXES: [&str; 7] = [
     "\u{1b}[36m",
     "\u{1b}[37m",
 ];
+
+/// How many cells on the next one is that is set, where they are scattered. It has no divisor in
+/// common with the numbers of cells, so that each is set once.
+const STRIDE: usize = 61_803;
+
+/// Tells a configuration and colours what a table says of single cells and rows.
+pub(crate) fn tell(
+    alloc: Global,
+    table: &Table,
+    config: &mut SpannedConfig,
+    colors: &mut ColorsMap,
+) -> Result<(), AllocError> {
+    match table.telling {
+        Telling::Nothing => Ok(()),
+        Telling::RowsAfterCells => {
+            tell_cells(alloc, table, config, colors)?;
+            align_rows(config, table.rows)
+        }
+        Telling::Crossings => {
+            let size = (table.rows, table.columns);
+            config.set_span_crossings(alloc, size, Borders::ascii())
+        }
+        _ => tell_cells(alloc, table, config, colors),
+    }
+}
+
+// The place of the cell of this number, row by row.
+fn position(number: usize, columns: usize) -> Position {
+    if columns == 0 {
+        return Position::new(0, 0);
+    }
+    Position::new(number / columns, number % columns)
+}
+
+// The number of the cell that is set after so many others, of so many cells.
+fn number(telling: &Telling, told: usize, cells: usize) -> usize {
+    if cells == 0 {
+        return 0;
+    }
+    match telling {
+        Telling::Reversed => cells - 1 - told % cells,
+        Telling::Scattered => told.wrapping_mul(STRIDE) % cells,
+        _ => told,
+    }
+}
+
+// Sets what a table says of each cell.
+fn tell_cells(
+    alloc: Global,
+    table: &Table,
+    config: &mut SpannedConfig,
+    colors: &mut ColorsMap,
+) -> Result<(), AllocError> {
+    let cells = table.rows.saturating_mul(table.columns);
+    for told in 0..cells {
+        let pos = position(number(&table.telling, told, cells), table.columns);
+        match table.telling {
+            Telling::Borders => frame_cell(config, pos),
+            Telling::RowsAfterCells => {
+                let cell = Entity::Cell(pos.row, pos.col);
+                config.set_alignment_horizontal(cell, AlignmentHorizontal::Right)
+            }
+            _ => style_cell(alloc, config, colors, pos),
+        }?;
+    }
+    Ok(())
+}
+
+// One glyph all round a cell.
+fn frame_cell(config: &mut SpannedConfig, pos: Position) -> Result<(), AllocError> {
+    let c = ['#', '*', '%'][(pos.row % 3 + pos.col % 3) % 3];
+    config.set_border(pos, Border::full(c, c, c, c, c, c, c, c))
+}
+
+// A colour, two spaces beside a text, and the text left, in the middle or right.
+fn style_cell(
+    alloc: Global,
+    config: &mut SpannedConfig,
+    colors: &mut ColorsMap,
+    pos: Position,
+) -> Result<(), AllocError> {
+    color_cell(alloc, colors, pos)?;
+    let cell = Entity::Cell(pos.row, pos.col);
+    let (left, right) = [(1, 1), (0, 2), (2, 0)][(pos.row % 3 + pos.col % 3) % 3];
+    let none = Indent::spaced(0);
+    config.set_padding(
+        cell,
+        Sides::new(Indent::spaced(left), Indent::spaced(right), none, none),
+    )?;
+    config.set_alignment_horizontal(cell, ALIGNMENTS[(pos.row % 3 + 2 * (pos.col % 3)) % 3])
+}
+
+const ALIGNMENTS: [AlignmentHorizontal; 3] = [
+    AlignmentHorizontal::Left,
+    AlignmentHorizontal::Center,
+    AlignmentHorizontal::Right,
+];
+
+// All texts in the middle, row by row.
+fn align_rows(config: &mut SpannedConfig, rows: usize) -> Result<(), AllocError> {
+    for row in 0..rows {
+        config.set_alignment_horizontal(Entity::Row(row), AlignmentHorizontal::Center)?;
+    }
+    Ok(())
+}

@@ -1,9 +1,16 @@
-//! What the cells of the tables say, and their sizes in memory.
+//! What the cells of the tables say, in memory or made as it is asked for, and their sizes.
 
-use crate::fault::CaseFault;
-use crate::speed::table::{Table, Words};
-use pg_layout::{ConstantDimension, VecRecords};
+ghost use Rattle.std.specs.Prelude.{◌≡◌, ◌<◌, None, replicate, length};
+ghost use Rattle.pg_layout.specs.Records.{text_at};
+
+use crate::case::CaseFault;
+use crate::speed::case::{Table, Words};
+use pg_layout::{
+    ConstantDimension, ExactRecords, PeekableRecords, Position, Records, VecRecords, count_lines,
+    get_line, get_line_width, get_text_width,
+};
 use std::alloc::{AllocError, Global};
+use std::iter::{RepeatN, repeat_n};
 
 /// What each cell says where all say the same.
 pub(crate) const SAME: &str = "abc";
@@ -101,4 +108,78 @@ fn push_long(text: &mut String, lines: usize) -> Result<(), AllocError> {
         text.push_str(SAME)?;
     }
     Ok(())
+}
+
+/// Records of so many rows and columns whose cells all say the same, and which don't say how many
+/// rows there are. They take no memory.
+#[derive(Clone, Copy)]
+pub(crate) struct MadeRecords {
+    pub(crate) text: &'static str,
+    pub(crate) rows: usize,
+    pub(crate) columns: usize,
+}
+
+impl MadeRecords {
+    // The text at a place.
+    fn text_at(&self, pos: Position) -> &str
+        requires row { pos.row < length (replicate self.now.rows (replicate self.now.columns self.now.text.now)) }
+        requires column { pos.col < self.now.columns }
+        ensures { result.now ≡ text_at (replicate self.now.rows (replicate self.now.columns self.now.text.now)) pos }
+    {
+        self.text
+    }
+}
+
+impl Records for MadeRecords {
+    type Cell = &'static str;
+
+    type Columns = RepeatN<&'static str>;
+
+    type Rows = RepeatN<RepeatN<&'static str>>;
+
+    ghost texts = { λ r. replicate r.rows (replicate r.columns r.text.now) };
+
+    ghost columns = { λ r. r.columns };
+
+    ghost hint = { λ r. None };
+
+    fn iter_rows(self) -> RepeatN<RepeatN<&'static str>> {
+        repeat_n(repeat_n(self.text, self.columns), self.rows)
+    }
+
+    fn count_columns(&self) -> usize {
+        self.columns
+    }
+
+    fn hint_count_rows(&self) -> Option<usize> {
+        None
+    }
+}
+
+impl ExactRecords for MadeRecords {
+    fn count_rows(&self) -> usize {
+        self.rows
+    }
+}
+
+impl PeekableRecords for MadeRecords {
+    fn get_text(&self, pos: Position) -> &str {
+        self.text_at(pos)
+    }
+
+    fn get_line(&self, pos: Position, line: usize) -> &str {
+        get_line(self.text_at(pos), line)
+    }
+
+    fn count_lines(&self, pos: Position) -> usize {
+        count_lines(self.text_at(pos))
+    }
+
+    fn get_line_width(&self, pos: Position, line: usize) -> usize {
+        get_line_width(get_line(self.text_at(pos), line))
+    }
+
+    fn get_width(&self, pos: Position) -> usize {
+        get_text_width(self.text_at(pos))
+    }
 }

@@ -1,9 +1,7 @@
 //! A table whose rows come one at a time.
 
-use crate::case::Case;
-use crate::fault::CaseFault;
-use crate::streams::printing::check_others;
-use crate::streams::way::Way;
+use crate::case::{Case, CaseFault};
+use crate::streams::printing::{Way, check_others};
 use crate::words::set_numbers;
 use pg_config::SpannedConfig;
 use pg_layout::ConstantDimension;

@@ -2,7 +2,7 @@
 
 ghost use Rattle.std.specs.Prelude.{◌≡◌, [], ◌∷◌, map, replicate, IfOk, IfSome};
 
-use crate::fault::CaseFault;
+use crate::case::CaseFault;
 use pg_config::{CompactConfig, SpannedConfig};
 use pg_grid::{CompactGrid, IterGrid};
 use pg_layout::{Borders, ConstantDimension, Indent, IterRecords, NoColors, Sides, VecRecords};

@@ -1,8 +1,8 @@
 //! Streams that hold a row.
 
 use crate::streams::case::{Step, StepKind, StreamCase};
+use crate::streams::printing::Way;
 use crate::streams::watch::{Buffer, Memory, Watch};
-use crate::streams::way::Way;
 use pg_layout::{ConstantDimension, NoColors};
 use pg_stream::{RowStream, RowsFault, StreamFault};
 use std::alloc::{AllocError, Global};

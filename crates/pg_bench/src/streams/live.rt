@@ -1,8 +1,8 @@
 //! Streams that show each row at once.
 
 use crate::streams::case::{Step, StepKind, StreamCase};
+use crate::streams::printing::Way;
 use crate::streams::watch::{Buffer, Memory, Watch};
-use crate::streams::way::Way;
 use crate::words::owned_row;
 use pg_layout::{ConstantDimension, NoColors};
 use pg_stream::{LiveStream, SizedStream, StreamFault};

@@ -2,8 +2,8 @@
 
 use crate::case::Wrong;
 use crate::streams::case::{Step, StepKind, StreamCase};
+use crate::streams::printing::Way;
 use crate::streams::watch::{Buffer, Memory, Watch};
-use crate::streams::way::Way;
 use pg_layout::{ConstantDimension, NoColors};
 use pg_stream::{RowFault, RowPrinter, StreamFault, printer_fits};
 use std::alloc::{AllocError, Global};

@@ -1,6 +1,6 @@
 //! Conditions of tables, indents and blank lines, at single values.
 
-use crate::fault::CaseFault;
+use crate::case::CaseFault;
 use pg_config::{CompactConfig, SpannedConfig};
 use pg_layout::{AlignmentVertical, ConstantDimension, Position};
 use pg_picture::fits::{Misfit, compact_fits, spans_fit, spans_fit_columns};

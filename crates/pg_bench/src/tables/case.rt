@@ -1,11 +1,9 @@
 //! A table in memory, and how it is to be drawn.
 
-use crate::case::Case;
-use crate::fault::CaseFault;
-use crate::tables::compact;
-use crate::tables::grid::Grid;
+use crate::case::{Case, CaseFault};
+use crate::tables::grid::{self, Grid};
 use crate::tables::refusal::Refusal;
-use crate::tables::within::Within;
+use crate::tables::sizes::Within;
 use crate::words::{number_of, owned_row, push_line, set_numbers};
 use pg_config::{CompactConfig, SpannedConfig};
 use pg_layout::{ColorsMap, ConstantDimension};

@@ -1,8 +1,8 @@
 //! Tables that aren't drawn.
 
-use crate::fault::CaseFault;
+use crate::case::CaseFault;
 use crate::tables::case::TableCase;
-use crate::tables::drawer::Drawer;
+use crate::tables::drawing::Drawer;
 use pg_grid::{Misfit, PrintFault};
 use pg_table::TableFault;
 use pg_testing::refusing::Refusing;

@@ -1,10 +1,13 @@
-//! Natural sizes.
+//! Natural sizes, and tables within a width.
 
-use crate::case::{Mismatch, Wrong};
+use crate::case::{CaseFault, Mismatch, Wrong};
 use crate::tables::case::TableCase;
-use crate::tables::drawer::Builder;
-use pg_layout::ConstantDimension;
-use pg_table::TableFault;
+use crate::tables::drawing::Builder;
+use crate::tables::refusal::Refusal;
+use crate::texts::case::breaking_of;
+use crate::words::number_of;
+use pg_layout::{ColorsMap, ConstantDimension, VecRecords};
+use pg_table::{FittedTable, NaturalTable, Overflow, TableFault};
 use pg_testing::refusing::Refusing;
 use pg_testing::report::Report;
 use std::alloc::{AllocError, Allocator, Global};
@@ -86,5 +89,180 @@ fn sizes_text<A: Allocator>(
         Err(TableFault::Totals) => String::from_str(alloc, NONE),
         Err(TableFault::Spans) => String::from_str(alloc, SPANS),
         Err(fault) => format!(in alloc; "{fault:?}"),
+    }
+}
+
+/// What means no limit.
+const ANY: &str = "any";
+
+/// What a line `within` says.
+#[derive(Clone, Copy)]
+pub(crate) struct Within<'a> {
+    width: usize,
+    how: Overflow<'a>,
+}
+
+impl<'a> Within<'a> {
+    /// What a line says, as `44 words`.
+    pub(crate) fn of(line: &'a str) -> Result<Within<'a>, CaseFault> {
+        let Some((width, how)) = line.split_once(' ') else {
+            return Err(CaseFault::Unknown);
+        };
+        Ok(Within {
+            width: limit_of(width)?,
+            how: overflow_of(how)?,
+        })
+    }
+}
+
+// How many columns a word says, or that any number will do.
+fn limit_of(word: &str) -> Result<usize, CaseFault> {
+    if word == ANY {
+        return Ok(usize::MAX);
+    }
+    number_of(word)
+}
+
+// What becomes of texts that are too wide.
+fn overflow_of(words: &str) -> Result<Overflow<'_>, CaseFault> {
+    match words.strip_prefix("cut ") {
+        Some(tail) => Ok(Overflow::Cut(tail)),
+        None => Ok(Overflow::Wrap(breaking_of(words)?)),
+    }
+}
+
+// The limits of columns that words write.
+fn limits_of(alloc: Global, words: &str) -> Result<Vec<usize>, CaseFault> {
+    let mut limits = Vec::new(alloc);
+    for word in words.split(' ') {
+        limits.push(limit_of(word)?)?;
+    }
+    Ok(limits)
+}
+
+impl<'a> TableCase<'a> {
+    /// The builder that is lent the rows.
+    pub(crate) fn lent<'c>(
+        &'c self,
+        records: &'c VecRecords<String>,
+    ) -> NaturalTable<'c, &'c VecRecords<String>, ColorsMap> {
+        NaturalTable::new(records, &self.way.config, &self.way.colors)
+    }
+
+    // The table within a width.
+    fn fitted<'c, A: Allocator + Copy>(
+        &'c self,
+        memory: A,
+        builder: Builder<'c>,
+        Within { width, how }: Within<'a>,
+    ) -> Result<FittedTable<'c, &'c VecRecords<String>, ColorsMap, Global, A>, TableFault> {
+        let limits = self.way.limits.as_slice();
+        match builder {
+            Builder::Owned(table) => table.within_limits(memory, width, limits, how),
+            Builder::Lent(records) => self.lent(records).within_limits(memory, width, limits, how),
+        }
+    }
+
+    /// What the test of the table at its natural sizes returns, or of that within a width. A builder with rows of
+    /// its own has no test at natural sizes.
+    pub(crate) fn fits_naturally(&self, builder: Builder<'_>) -> Option<Result<(), Refusal>> {
+        let fits = match (self.way.within, builder) {
+            (Some(within), _) => self.fits_within(builder, within),
+            (None, Builder::Lent(records)) => self.lent(records).fits(self.alloc),
+            (None, Builder::Owned(_)) => return None,
+        };
+        Some(fits.map_err(Refusal::from))
+    }
+
+    // What the test of the table within a width returns.
+    fn fits_within(&self, builder: Builder<'_>, within: Within<'a>) -> Result<(), TableFault> {
+        self.fitted(self.alloc, builder, within)?.fits(self.alloc)
+    }
+
+    /// Appends such a table, with `memory` for all but the buffer.
+    pub(crate) fn print_naturally<A: Allocator + Copy, B: Allocator>(
+        &self,
+        memory: A,
+        builder: Builder<'_>,
+        buf: &mut String<B>,
+    ) -> Result<(), TableFault> {
+        match (self.way.within, builder) {
+            (Some(within), _) => self.fitted(memory, builder, within)?.print(memory, buf),
+            (None, Builder::Lent(records)) => self.lent(records).print(memory, buf),
+            (None, Builder::Owned(table)) => table.print(memory, buf),
+        }
+    }
+
+    /// The text of such a table, whose memory, and all other, is `memory`.
+    pub(crate) fn text_naturally<A: Allocator + Copy>(
+        &self,
+        memory: A,
+        builder: Builder<'_>,
+    ) -> Result<String<A>, TableFault> {
+        match (self.way.within, builder) {
+            (Some(within), _) => self.fitted(memory, builder, within)?.to_string(memory),
+            (None, Builder::Lent(records)) => self.lent(records).to_string(memory),
+            (None, Builder::Owned(table)) => table.to_string(memory),
+        }
+    }
+
+    /// The sizes of such a table.
+    pub(crate) fn sizes<A: Allocator + Copy>(
+        &self,
+        memory: A,
+        builder: Builder<'_>,
+    ) -> Result<ConstantDimension<A>, TableFault> {
+        match (self.way.within, builder) {
+            (Some(within), _) => self
+                .fitted(memory, builder, within)?
+                .natural_dimension(memory),
+            (None, Builder::Lent(records)) => self.lent(records).natural_dimension(memory),
+            (None, Builder::Owned(table)) => table.natural_dimension(memory),
+        }
+    }
+
+    // The least width of a line.
+    fn least_width(&self, builder: Builder<'_>, how: Overflow<'a>) -> Result<usize, TableFault> {
+        match builder {
+            Builder::Lent(records) => self.lent(records).least_width(self.alloc, how),
+            Builder::Owned(table) => table.least_width(self.alloc, how),
+        }
+    }
+
+    /// Asks for the least width of a line, where the case has it, and where nothing changes for the table
+    /// while all memory is refused.
+    pub(crate) fn look_within(
+        &self,
+        place: (usize, &str),
+        builder: Builder<'_>,
+        report: &mut Report,
+    ) {
+        let Some(within) = self.way.within else {
+            return;
+        };
+        if let Some(expected) = self.way.least {
+            let least = self.least_width(builder, within.how).ok();
+            report.compare(place, "least_width", least, expected);
+        }
+        if self.way.is_unchanged {
+            let memory = Refusing::from_on(self.alloc, 0);
+            let refused = self.fitted(&memory, builder, within).err();
+            let refused = refused.map(Refusal::from);
+            report.compare(place, "within", refused, None);
+        }
+    }
+
+    /// Takes what a line says of a table within a width: `within`, `limits`, `least` or `unchanged`.
+    pub(crate) fn push_within(&mut self, word: &str, rest: &'a str) -> Result<(), CaseFault> {
+        if self.natural.is_none() {
+            return Err(CaseFault::Unknown);
+        }
+        match word {
+            "within" => self.way.within = Some(Within::of(rest)?),
+            "limits" => self.way.limits = limits_of(self.alloc, rest)?,
+            "least" => self.way.least = Some(rest.parse::<usize>().ok()),
+            _ => self.way.is_unchanged = true,
+        }
+        Ok(())
     }
 }

@@ -1,6 +1,6 @@
 //! What becomes of tables by calls that merge, rearrange or export them, as it was worked out by hand.
 
-use crate::fault::CaseFault;
+use crate::case::CaseFault;
 use crate::values::Fact;
 use pg_layout::{AlignmentHorizontal, ExactRecords, Position};
 use pg_table::{Table, TableFault};

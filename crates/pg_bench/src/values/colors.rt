@@ -1,6 +1,6 @@
 //! Colours, and those of cells: which of several counts, which are the same, and what they need memory for.
 
-use crate::fault::CaseFault;
+use crate::case::CaseFault;
 use crate::values::Fact;
 use pg_layout::{ANSIBuf, ANSIFmt, ANSIStr, Colors, ColorsMap, NoColors, Position, same_color};
 use pg_testing::refusing::Refusing;

@@ -1,6 +1,6 @@
 //! Values by key, in the order of their keys.
 
-use crate::fault::CaseFault;
+use crate::case::CaseFault;
 use crate::values::Fact;
 use pg_layout::{Places, Position};
 use pg_testing::report::Report;

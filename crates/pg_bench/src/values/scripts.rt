@@ -1,12 +1,19 @@
-//! Scripts that are read and printed while memory is refused.
+//! Scripts that are read and printed while memory is refused, and how runs of `pgshow` end where the arguments, the
+//! script or its reader are wrong, or where the line of an error can't be written.
 
-use crate::fault::CaseFault;
+use crate::case::CaseFault;
 use crate::values::Fact;
-use pg_show::{Mode, PrintFault, Script, ScriptFault, parse_script, print_script};
+use crate::words::owned_row;
+use pg_show::{
+    Ending, Fault, Mode, PrintFault, Script, ScriptFault, parse_script, print_script, run,
+};
+use pg_testing::ledger::Rule;
 use pg_testing::refusing::Refusing;
 use pg_testing::report::Report;
+use pg_testing::streams::{EndlessReader, FailingWriter, PIECE};
 use pg_testing::trial::{Outcome, Trial};
-use std::alloc::Global;
+use std::alloc::{AllocError, Global};
+use std::io::{self, ErrorKind, Read};
 
 /// Each kind of line that keeps something in memory, and a cell that goes on below its row.
 const SCRIPT: &str = "\
@@ -205,4 +212,191 @@ pub(crate) fn check_scripts(alloc: Global, report: &mut Report) -> Result<(), Ca
     each_refused_request_leaves_a_beginning(alloc, &script, report);
     two_modes_ask_for_memory_of_their_own(alloc, &script, report);
     tables_without_text_take_no_memory(alloc, report)
+}
+
+/// The words that name a mode.
+const MODES: [&str; 4] = ["compact", "iter", "peek", "table"];
+
+/// The error line of wrong arguments.
+const USAGE: &str = "usage: pgshow compact|iter|peek|table\n";
+
+/// A script whose total width is no number of 64 bits.
+const WITHOUT_TOTAL: &str = "size 1 2\nwidths 18446744073709551615 1\n";
+
+/// Scripts with a line that is no UTF-8: without words, in a cell's text, and with a character that is cut off.
+const NO_TEXTS: [(&[u8], &str); 6] = [
+    (b"size 1 1\n\xff", "line 2: bad\n"),
+    (b"size 1 1\n  \xff\n", "line 2: bad\n"),
+    (b"size 1 1\ncell 0 0 \xff\n", "line 2: bad\n"),
+    (b"size 1 1\ncell 0 0 \xe6\x97\n", "line 2: bad\n"),
+    (b"size 1 1\nmargin 1 1 1 1 \xc0\x80\n", "line 2: bad\n"),
+    (b"\xff\nsize 1 1\n", "line 1: bad\n"),
+];
+
+// A run with these arguments on this input shows nothing, and ends with this error line and this status.
+fn check_refused<R: Read>(
+    fact: &mut Fact<'_>,
+    alloc: Global,
+    words: &[&str],
+    input: &mut R,
+    (line, status): (&str, u8),
+) {
+    let Ok(arguments) = owned_row(alloc, words) else {
+        return fact.holds(false);
+    };
+    let (mut out, mut err) = (Vec::new(alloc), Vec::new(alloc));
+    let ending = run(alloc, &arguments, input, &mut out, &mut err);
+    fact.same((ending.status(), out.len()), (status, 0));
+    fact.same(err.as_slice(), line.as_bytes());
+}
+
+fn anything_but_one_mode_is_wrong(alloc: Global, report: &mut Report) {
+    let mut fact = Fact::new(report, "anything but one mode is wrong");
+    let wrong: [&[&str]; 4] = [&[], &["compact", "compact"], &["Compact"], &[""]];
+    for words in wrong {
+        let mut script = "size 1".as_bytes();
+        check_refused(&mut fact, alloc, words, &mut script, (USAGE, 2));
+    }
+}
+
+fn a_line_that_is_no_utf_8_is_bad(alloc: Global, report: &mut Report) {
+    let mut fact = Fact::new(report, "a line that is no UTF-8 is bad");
+    for (script, line) in NO_TEXTS {
+        for mode in MODES {
+            let mut script = script;
+            check_refused(&mut fact, alloc, &[mode], &mut script, (line, 2));
+        }
+    }
+}
+
+// Without words a script is bad behind its last line.
+fn short_reads_are_read_to_the_end(alloc: Global, report: &mut Report) {
+    let mut fact = Fact::new(report, "short reads are read to the end");
+    for mode in MODES {
+        let input = &mut EndlessReader.take(10_000);
+        check_refused(&mut fact, alloc, &[mode], input, ("line 10001: bad\n", 2));
+    }
+}
+
+// An input that goes on after 16,777,216 reads is refused, whatever it is.
+fn a_reader_without_an_end_is_refused(alloc: Global, report: &mut Report) {
+    let mut fact = Fact::new(report, "a reader without an end is refused");
+    let input = &mut EndlessReader;
+    check_refused(&mut fact, alloc, &["peek"], input, ("read failed\n", 5));
+}
+
+// Arguments that can't be read for these errors end the run with this line and this status.
+fn unread_arguments_end_the_run(alloc: Global, report: &mut Report) {
+    let mut fact = Fact::new(report, "unread arguments end the run");
+    for (error, line, status) in [
+        (io::Error::from(AllocError), "out of memory\n", 4),
+        (
+            io::Error::from(ErrorKind::OutOfMemory),
+            "out of memory\n",
+            4,
+        ),
+        (io::Error::from(ErrorKind::InvalidData), USAGE, 2),
+    ] {
+        let mut err = Vec::new(alloc);
+        let ending = Ending::with_fault(Fault::of_arguments(&error), &mut err);
+        fact.same((ending.status(), ending.is_told), (status, true));
+        fact.same(err.as_slice(), line.as_bytes());
+    }
+}
+
+/// A fault whose error line is written while each write and flush fails in turn.
+#[derive(Clone, Copy)]
+struct UntoldFault {
+    alloc: Global,
+    fault: Fault,
+    line: &'static str,
+    status: u8,
+}
+
+impl Trial for UntoldFault {
+    // A fault keeps its status, and says whether its line was written.
+    fn outcome(&mut self, number: u64) -> Outcome {
+        let mut told = Vec::new(self.alloc);
+        let mut err = FailingWriter::new(&mut told, Rule::Only(number));
+        let ending = Ending::with_fault(self.fault, &mut err);
+        let is_told = !err.has_failed();
+        let is_right = ending.status() == self.status && ending.is_told == is_told;
+        let is_whole = told.as_slice() == self.line.as_bytes();
+        match is_told {
+            true if is_right && is_whole => Outcome::Whole,
+            false if is_right && self.line.as_bytes().starts_with(&told) => Outcome::Failed,
+            _ => Outcome::Wrong,
+        }
+    }
+}
+
+// The fault of a table that doesn't fit.
+fn misfit(alloc: Global) -> Result<Fault, CaseFault> {
+    let words = owned_row(alloc, &["peek"])?;
+    let (mut out, mut err) = (Vec::new(alloc), Vec::new(alloc));
+    let mut script = WITHOUT_TOTAL.as_bytes();
+    let ending = run(alloc, &words, &mut script, &mut out, &mut err);
+    ending.fault.ok_or(CaseFault::Unanswered)
+}
+
+// At least a write of each three bytes and a flush fail.
+fn each_fault_keeps_its_status_where_it_is_not_told(
+    alloc: Global,
+    report: &mut Report,
+) -> Result<(), CaseFault> {
+    let mut fact = Fact::new(report, "each fault keeps its status where it is not told");
+    for (fault, line, status) in [
+        (Fault::Usage, USAGE, 2),
+        (Fault::Bad(7), "line 7: bad\n", 2),
+        (misfit(alloc)?, "does not fit: totals\n", 3),
+        (Fault::Memory, "out of memory\n", 4),
+        (Fault::Read, "read failed\n", 5),
+        (Fault::Write, "write failed\n", 5),
+    ] {
+        let mut untold = UntoldFault {
+            alloc,
+            fault,
+            line,
+            status,
+        };
+        let are_enough = match untold.failures() {
+            Ok(writes) => writes > line.len().div_ceil(PIECE) as u64,
+            Err(_) => false,
+        };
+        fact.same_at(line, are_enough, true);
+    }
+    Ok(())
+}
+
+// A run on a script that is bad in line 2 says whether the writer of errors, which fails by this rule, took its
+// line.
+fn an_ending_says_whether_its_fault_is_told(
+    alloc: Global,
+    report: &mut Report,
+) -> Result<(), AllocError> {
+    let mut fact = Fact::new(report, "an ending says whether its fault is told");
+    for mode in MODES {
+        for (rule, line) in [(Rule::Never, "line 2: bad\n"), (Rule::FromOn(0), "")] {
+            let words = owned_row(alloc, &[mode])?;
+            let (mut out, mut told) = (Vec::new(alloc), Vec::new(alloc));
+            let mut err = FailingWriter::new(&mut told, rule);
+            let mut script = "size 1 1\nwidth 5\n".as_bytes();
+            let ending = run(alloc, &words, &mut script, &mut out, &mut err);
+            fact.holds(matches!(ending.fault, Some(Fault::Bad(2))));
+            fact.same((ending.is_told, out.len()), (!line.is_empty(), 0));
+            fact.same(told.as_slice(), line.as_bytes());
+        }
+    }
+    Ok(())
+}
+
+/// All facts of this file.
+pub(crate) fn check_endings(alloc: Global, report: &mut Report) -> Result<(), CaseFault> {
+    anything_but_one_mode_is_wrong(alloc, report);
+    a_line_that_is_no_utf_8_is_bad(alloc, report);
+    short_reads_are_read_to_the_end(alloc, report);
+    a_reader_without_an_end_is_refused(alloc, report);
+    unread_arguments_end_the_run(alloc, report);
+    each_fault_keeps_its_status_where_it_is_not_told(alloc, report)?;
+    an_ending_says_whether_its_fault_is_told(alloc, report).map_err(CaseFault::from)
 }

@@ -1,6 +1,6 @@
 use Rattle.std.proofs.Common.{replicate, ap₂}
 use Rattle.pg_bench.proofs.Alike.{lent-gives}
-use Rattle.pg_bench.proofs.streams.taken.print_only_row.Goals as goal
+use Rattle.pg_bench.proofs.streams.cells.print_only_row.Goals as goal
 
 -- what the cells give has nothing to do with where they are lent, so any loan stands for theirs
 pub row-requires-clause-fits : goal.row-requires-clause-fits

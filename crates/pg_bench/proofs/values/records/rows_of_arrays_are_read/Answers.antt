@@ -2,7 +2,7 @@ use Rattle.std.proofs.Common.{ap, refl, sym, ◌∙◌, length, map}
 use Rattle.std.specs.Vec.Iter.{into_iter_items}
 use Rattle.std.proofs.lemmas.List.{nil_from_length}
 use Rattle.pg_layout.proofs.GivenArrays.{arrays-readable}
-use Rattle.pg_bench.proofs.values.given.rows_of_arrays_are_read.Goals as goal
+use Rattle.pg_bench.proofs.values.records.rows_of_arrays_are_read.Goals as goal
 
 pub iter_rows-requires : goal.iter_rows-requires
 iter_rows-requires c =

@@ -6,7 +6,7 @@ use Rattle.std.specs.declared.iter.RepeatN.{RepeatN}
 use Rattle.pg_layout.specs.Records.{AlwaysGives, Gives}
 use Rattle.pg_layout.specs.Text.{Text}
 use Rattle.pg_layout.proofs.Given.{given-items}
-use Rattle.pg_bench.proofs.speed.made_records.MadeRecordsRecords.iter_rows.Goals as goal
+use Rattle.pg_bench.proofs.speed.texts.MadeRecordsRecords.iter_rows.Goals as goal
 
 map-replicate : {A B : Type 0} (f : A → B) (n : ℕ) (x : A) → map f (replicate n x) ≡ replicate n (f x)
 map-replicate f zero x = refl

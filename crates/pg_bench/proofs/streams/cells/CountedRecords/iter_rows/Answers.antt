@@ -1,8 +1,8 @@
 use Rattle.std.proofs.Common.{◌≡◌}
-use Rattle.pg_bench.specs.declared.streams.counted.CountedCells.{CountedCells}
-use Rattle.pg_bench.specs.declared.streams.counted.CountedRows.{CountedRows}
+use Rattle.pg_bench.specs.declared.streams.cells.CountedCells.{CountedCells}
+use Rattle.pg_bench.specs.declared.streams.cells.CountedRows.{CountedRows}
 use Rattle.pg_bench.proofs.Alike.{rows-given}
-use Rattle.pg_bench.proofs.streams.counted.CountedRecords.iter_rows.Goals as goal
+use Rattle.pg_bench.proofs.streams.cells.CountedRecords.iter_rows.Goals as goal
 
 pub returns : goal.returns
 returns g c = record {
