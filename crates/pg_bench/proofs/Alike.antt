@@ -9,7 +9,7 @@ use Rattle.pg_config.specs.Config.{Config}
 use Rattle.pg_picture.specs.Fits.{misfit_of}
 use Rattle.pg_picture.specs.Sizes.{table_of}
 use Rattle.pg_picture.specs.Table.{Table}
-use Rattle.pg_testing.specs.declared.repeated.Repeated.{Repeated}
+use Rattle.pg_testing.specs.declared.unhinted.Repeated.{Repeated}
 use Rattle.std.specs.Iterator.{Count}
 
 -- how an iterator gives what it repeats

@@ -50,11 +50,10 @@
 //!
 //! Behind the sections comes what no section can say, in the modules `given`, `cells` and `values`.
 
+mod calls;
 pub(crate) mod case;
 mod cells;
 mod given;
-mod held;
-mod live;
 mod printers;
 mod printing;
 mod values;

@@ -96,5 +96,4 @@ pub(crate) mod case;
 mod drawing;
 pub(crate) mod grid;
 pub(crate) mod refusal;
-mod refused;
 mod sizes;

@@ -54,14 +54,14 @@ pub(crate) fn check_values(alloc: Global, report: &mut Report) {
     colors::check_colors(alloc, report);
     let checked = places::check_places(alloc, report);
     report.take(0, "places", checked);
-    let checked = pushed::check_pushed(alloc, report);
+    let checked = records::check_pushed(alloc, report);
     report.take(0, "rows that are pushed", checked);
-    let checked = given::check_given(alloc, report);
+    let checked = records::check_given(alloc, report);
     report.take(0, "rows that are given", checked);
     let checked = calls::check_calls(alloc, report);
     report.take(0, "calls of tables", checked);
     failing::check_failing(alloc, report);
-    let checked = endings::check_endings(alloc, report);
+    let checked = scripts::check_endings(alloc, report);
     report.take(0, "endings", checked);
     let checked = scripts::check_scripts(alloc, report);
     report.take(0, "scripts", checked);

@@ -2,24 +2,20 @@
 //! that fail, files of cases, settings as lines of words, and a report.
 //!
 //! [`ledger`] says which calls fail, [`refusing`] has the allocator, [`streams`] the readers and
-//! the writer, and [`trial`] the loop over all failures of a call; [`repeated`] is an iterator that
-//! knows little of itself, and [`unhinted`] are records that don't give their number of rows.
+//! the writer, and [`trial`] the loop over all failures of a call; [`unhinted`] has an iterator and
+//! records that don't give their number of rows.
 //! [`lines`] reads a file of sections, [`settings`] applies a line to a configuration, and
 //! [`report`] counts what is compared.
 #![tactic(auto)]
 
-mod blocks;
-mod fault;
 pub mod ledger;
 mod line;
 pub mod lines;
 pub mod refusing;
-pub mod repeated;
 pub mod report;
 pub mod settings;
 pub mod streams;
 pub mod trial;
 pub mod unhinted;
 
-pub use crate::fault::LineFault;
-pub use crate::line::{Line, texts_of_row};
+pub use crate::line::{Line, LineFault, texts_of_row};

@@ -1,7 +1,6 @@
-//! What a line of a file of sections is.
+//! What a line of a file of sections is, and why it isn't followed.
 
-use crate::fault::LineFault;
-use std::alloc::Global;
+use std::alloc::{AllocError, AllocFailed, Global};
 
 /// A line of a file of sections, without its mark.
 #[derive(Clone, Copy)]
@@ -44,4 +43,25 @@ pub fn texts_of_row(alloc: Global, row: &str) -> Result<Vec<&str>, LineFault> {
     }
     let row = row.strip_suffix('|').ok_or(LineFault::Unknown)?;
     row.split('|').collect(alloc).map_err(LineFault::from)
+}
+
+/// Why a line isn't followed.
+#[derive(Debug, Clone, Copy, PartialEq, Eq)]
+pub enum LineFault {
+    /// It has too few, too many or unknown words.
+    Unknown,
+    /// Out of memory.
+    Memory,
+}
+
+impl From<AllocError> for LineFault {
+    fn from(_error: AllocError) -> LineFault {
+        LineFault::Memory
+    }
+}
+
+impl<T: Drop> From<AllocFailed<T>> for LineFault {
+    fn from(_error: AllocFailed<T>) -> LineFault {
+        LineFault::Memory
+    }
 }

@@ -28,17 +28,13 @@
 mod borders;
 mod cells;
 mod looks;
-mod named_places;
-mod parts;
-mod places;
 mod words;
 
-use crate::fault::LineFault;
-use crate::settings::borders::set_line;
+use crate::line::LineFault;
+pub use crate::settings::borders::NamedPlaces;
+use crate::settings::borders::{set_line, with_colors};
 pub use crate::settings::cells::set_cell_color;
 pub use crate::settings::looks::header_line_named;
-pub use crate::settings::named_places::NamedPlaces;
-use crate::settings::named_places::with_colors;
 pub use crate::settings::words::Words;
 use pg_config::SpannedConfig;
 use pg_layout::Borders;

@@ -10,8 +10,8 @@ use pg_layout::{ConstantDimension, NoColors, Records, VecRecords};
 use pg_picture::fits::table_fits;
 use pg_stream::{RowPrinter, StreamFault};
 use pg_testing::refusing::Refusing;
-use pg_testing::repeated::Repeated;
 use pg_testing::report::Report;
+use pg_testing::unhinted::Repeated;
 use std::alloc::{AllocError, Global};
 use std::cell::Cell;
 

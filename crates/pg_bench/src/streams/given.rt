@@ -8,9 +8,9 @@ use pg_grid::{CompactGrid, IterGrid};
 use pg_layout::{Borders, ConstantDimension, Indent, IterRecords, NoColors, Sides, VecRecords};
 use pg_picture::fits::table_fits;
 use pg_testing::refusing::Refusing;
-use pg_testing::repeated::Repeated;
 use pg_testing::report::Report;
 use pg_testing::settings::apply_all;
+use pg_testing::unhinted::Repeated;
 use std::alloc::{AllocError, Allocator, Global};
 
 /// The line and the section of a mismatch.

@@ -220,14 +220,10 @@ impl RefusedBuilder<'_, '_> {
 }
 
 impl<'a> TableCase<'a> {
-    /// Sets a line below the header of a table of these rows, or a title, while memory is refused, by reference and
-    /// by value. A line takes memory where there are two rows or more, and columns; a title with
-    /// characters does over a row line that is there. Other calls aren't made.
-    pub(crate) fn refuse(
-        &self,
-        call: BuilderCall<'_>,
-        report: &mut Report,
-    ) -> Result<(), CaseFault> {
+    // Sets a line below the header of a table of these rows, or a title, while memory is refused, by reference and
+    // by value. A line takes memory where there are two rows or more, and columns; a title with
+    // characters does over a row line that is there. Other calls aren't made.
+    fn refuse(&self, call: BuilderCall<'_>, report: &mut Report) -> Result<(), CaseFault> {
         let (set, with, takes_memory) = match call {
             BuilderCall::HeaderLine(_) => {
                 let takes_memory = self.rows.len() > 1 && self.has_cells();

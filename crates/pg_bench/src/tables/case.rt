@@ -1,7 +1,7 @@
 //! A table in memory, and how it is to be drawn.
 
 use crate::case::{Case, CaseFault};
-use crate::tables::grid::{self, Grid};
+use crate::tables::grid::{Grid, with_compact_setting};
 use crate::tables::refusal::Refusal;
 use crate::tables::sizes::Within;
 use crate::words::{number_of, owned_row, push_line, set_numbers};
@@ -64,7 +64,7 @@ impl<'a> TableWay<'a> {
 
     // Sets a part of the compact grid's configuration.
     fn set_compact(&mut self, line: &str) -> Result<(), LineFault> {
-        self.compact = compact::with_setting(self.compact, line)?;
+        self.compact = with_compact_setting(self.compact, line)?;
         Ok(())
     }
 }

@@ -83,7 +83,10 @@ impl<C: Colors> SizedTable<'_, C> {
 }
 
 /// The configuration with the setting of a line, as `margin 1 1 0 0`.
-pub(crate) fn with_setting(config: CompactConfig, line: &str) -> Result<CompactConfig, LineFault> {
+pub(crate) fn with_compact_setting(
+    config: CompactConfig,
+    line: &str,
+) -> Result<CompactConfig, LineFault> {
     let mut words = Words::new(line);
     Ok(match words.word() {
         "borders" => config.set_borders(words.last_borders()?),

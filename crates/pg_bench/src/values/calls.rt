@@ -166,7 +166,7 @@ fn check_case(alloc: Global, case: &Case, report: &mut Report) {
 
 fn a_table_gives_its_texts(alloc: Global, report: &mut Report) -> Result<(), CaseFault> {
     let mut fact = Fact::new(report, "a table gives its texts");
-    let table = table_of(alloc, &[&["a", "b"]])?;
+    let table = Table::new(alloc, vec![in alloc; vec![in alloc; "a", "b"]?]?)?;
     fact.same(table.text(Position::new(0, 1)), Some("b"));
     fact.same(table.text(Position::new(0, 2)), None);
     fact.same(table.text(Position::new(1, 0)), None);

@@ -4,9 +4,9 @@
 use crate::values::Fact;
 use pg_testing::ledger::Rule;
 use pg_testing::refusing::Refusing;
-use pg_testing::repeated::Repeated;
 use pg_testing::report::Report;
 use pg_testing::streams::{EndlessReader, FailingReader, FailingWriter};
+use pg_testing::unhinted::Repeated;
 use std::alloc::{Allocator, Global};
 use std::io::{Read, Write};
 

@@ -8,8 +8,8 @@ use pg_layout::{
     ExactRecords, IterRecords, PeekableRecords, Position, PushFault, Records, VecRecords,
 };
 use pg_testing::refusing::Refusing;
-use pg_testing::repeated::Repeated;
 use pg_testing::report::Report;
+use pg_testing::unhinted::Repeated;
 use std::alloc::Global;
 use std::array;
 

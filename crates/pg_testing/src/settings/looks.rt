@@ -1,6 +1,6 @@
 //! Looks by their names: their borders, and the line below their header.
 
-use crate::fault::LineFault;
+use crate::line::LineFault;
 use pg_layout::{Borders, HorizontalLine};
 
 /// The borders of a look.

@@ -1,8 +1,7 @@
-//! The words of a line.
+//! The words of a line, and what they mean.
 
-use crate::fault::LineFault;
+use crate::line::LineFault;
 use crate::settings::borders::borders_of;
-use crate::settings::parts::{color_of, glyph_of, indent_of, number_of};
 use pg_layout::{
     ANSIBuf, AlignmentHorizontal, AlignmentVertical, Borders, Entity, Indent, Offset, Position,
     Sides,
@@ -220,4 +219,44 @@ impl<'a> Words<'a> {
             _ => Err(LineFault::Unknown),
         }
     }
+}
+
+/// The glyph that a word means, or `None` for none.
+pub(crate) fn glyph_of(word: &str) -> Result<Option<char>, LineFault> {
+    match word {
+        "none" => Ok(None),
+        "space" => Ok(Some(' ')),
+        _ => match word.parse::<char>() {
+            Ok(glyph) => Ok(Some(glyph)),
+            Err(_) => Err(LineFault::Unknown),
+        },
+    }
+}
+
+/// The colour that a word means, or `None` for none.
+pub(crate) fn color_of<A: Allocator + Copy>(
+    alloc: A,
+    word: &str,
+) -> Result<Option<ANSIBuf<A>>, LineFault> {
+    if word == "none" {
+        return Ok(None);
+    }
+    match word.split_once('|') {
+        Some((prefix, suffix)) => Ok(Some(ANSIBuf::new(alloc, prefix, suffix)?)),
+        None => Err(LineFault::Unknown),
+    }
+}
+
+// The size and the fill of one side, as `3` or `3:.`.
+fn indent_of(word: &str) -> Result<Indent, LineFault> {
+    let (size, fill) = word.split_once(':').unwrap_or((word, "space"));
+    match (size.parse::<usize>(), glyph_of(fill)?) {
+        (Ok(size), Some(fill)) => Ok(Indent::new(size, fill)),
+        _ => Err(LineFault::Unknown),
+    }
+}
+
+/// The number that a word means.
+pub(crate) fn number_of(word: &str) -> Result<usize, LineFault> {
+    word.parse::<usize>().ok().ok_or(LineFault::Unknown)
 }

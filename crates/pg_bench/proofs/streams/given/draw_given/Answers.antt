@@ -5,7 +5,7 @@ use Rattle.pg_layout.specs.Text.{Text}
 use Rattle.pg_layout.proofs.GivenArrays.{arrays-readable}
 use Rattle.pg_picture.specs.Fits.{misfit_of}
 use Rattle.pg_picture.specs.Sizes.{table_of}
-use Rattle.pg_testing.specs.declared.repeated.Repeated.{Repeated}
+use Rattle.pg_testing.specs.declared.unhinted.Repeated.{Repeated}
 use Rattle.pg_picture.proofs.FittingTables.{misfit-parts, none-of-ok}
 use Rattle.pg_bench.proofs.Alike.{left_of, none-left, one-left, alike-fit, texts-alike, columns-texts, even-alike, exact-alike}
 use Rattle.pg_bench.proofs.streams.given.draw_given.Goals as goal

@@ -2,7 +2,7 @@ use Rattle.std.proofs.Common.{◌≡◌, List, None, map, length, slice_index_or
 use Rattle.std.specs.Borrow.{Bor}
 use Rattle.pg_layout.specs.Records.{Given}
 use Rattle.pg_layout.specs.Text.{Text}
-use Rattle.pg_testing.specs.declared.repeated.Repeated.{Repeated}
+use Rattle.pg_testing.specs.declared.unhinted.Repeated.{Repeated}
 use Rattle.pg_picture.proofs.FittingTables.{misfit-parts}
 use Rattle.pg_bench.proofs.Alike.{none-fit, count-left}
 use Rattle.pg_bench.proofs.streams.given.draw_no_rows.Goals as goal

@@ -1,14 +1,15 @@
-//! Streams that hold a row.
+//! Calls of streams: of those that hold a row, and of those that show each row at once.
 
 use crate::streams::case::{Step, StepKind, StreamCase};
 use crate::streams::printing::Way;
 use crate::streams::watch::{Buffer, Memory, Watch};
+use crate::words::owned_row;
 use pg_layout::{ConstantDimension, NoColors};
-use pg_stream::{RowStream, RowsFault, StreamFault};
+use pg_stream::{LiveStream, RowStream, RowsFault, SizedStream, StreamFault};
 use std::alloc::{AllocError, Global};
 
 /// A stream that holds a row of texts.
-type Stream<'a> = RowStream<
+type HeldStream<'a> = RowStream<
     'a,
     &'a str,
     ConstantDimension,
@@ -72,7 +73,7 @@ impl<'a> StreamCase<'a> {
         &'m self,
         memory: Memory<'m>,
         hint: Option<usize>,
-    ) -> Result<Stream<'m>, StreamFault> {
+    ) -> Result<HeldStream<'m>, StreamFault> {
         RowStream::new(
             memory,
             &*self.config,
@@ -156,14 +157,99 @@ impl<'a> StreamCase<'a> {
 // Pushes a row.
 fn push<'m>(
     memory: Memory<'m>,
-    stream: Stream<'m>,
+    stream: HeldStream<'m>,
     way: Way,
     step: &Step<'m>,
     buf: &mut Buffer<'m>,
-) -> Result<Stream<'m>, StreamFault> {
+) -> Result<HeldStream<'m>, StreamFault> {
     if matches!(way, Way::PushFrom) {
         return stream.push_from(memory, step.cells.iter().copied(), buf);
     }
     let cells = step.cells.as_slice().to_vec(memory)?;
     stream.push(cells, buf)
+}
+
+/// A stream whose rows are shown at once.
+type Live<'a> = LiveStream<'a, &'a str, ConstantDimension, NoColors, Global, Memory<'a>>;
+
+/// A stream whose rows bring their heights.
+type Sized<'a> = SizedStream<'a, &'a str, ConstantDimension, NoColors, Global, Memory<'a>>;
+
+/// A stream that shows each row at once.
+#[derive(Drop)]
+enum ShownStream<'a> {
+    /// Its rows are pushed or lent.
+    Live(Live<'a>),
+    /// Its rows bring their heights.
+    Sized(Sized<'a>),
+}
+
+impl<'a> StreamCase<'a> {
+    /// Pushes or lends the rows to a stream that shows each of them at once. It goes on behind a fault.
+    pub(crate) fn show_rows<'m>(&'m self, way: Way, watch: &mut Watch<'m>, buf: &mut Buffer<'m>) {
+        let mut stream = match self.shown(way, watch.memory) {
+            Ok(stream) => stream,
+            Err(fault) => return watch.stops(0, &fault, buf),
+        };
+        watch.goes(0, buf);
+        for (number, step) in self.steps.iter().enumerate() {
+            if matches!(step.kind, StepKind::Row) {
+                let is_lent = matches!(way, Way::Lent) && !step.is_pushed;
+                let shown = stream.show(self.alloc, is_lent, step, buf);
+                watch.ends(number, shown, buf);
+            }
+        }
+        watch.ends(self.last(), stream.finish(buf), buf);
+    }
+
+    // Such a stream before its first row.
+    fn shown<'m>(&'m self, way: Way, memory: Memory<'m>) -> Result<ShownStream<'m>, StreamFault> {
+        let (config, dimension, columns) = (&*self.config, &self.dimension, self.columns());
+        if matches!(way, Way::Sized) {
+            let made: Result<Sized<'m>, StreamFault> = SizedStream::new(
+                memory, config, dimension, &NoColors, columns,
+            );
+            return Ok(ShownStream::Sized(made?));
+        }
+        let made: Result<Live<'m>, StreamFault> = LiveStream::new(
+            memory, config, dimension, &NoColors, columns,
+        );
+        Ok(ShownStream::Live(made?))
+    }
+}
+
+impl<'m> ShownStream<'m> {
+    // Shows a row, whose texts are gone when the next one comes, where they are lent.
+    fn show(
+        &mut self,
+        alloc: Global,
+        is_lent: bool,
+        step: &Step<'m>,
+        buf: &mut Buffer<'m>,
+    ) -> Result<(), StreamFault> {
+        if is_lent {
+            return self.lend(&owned_row(alloc, &step.cells)?, buf);
+        }
+        let cells = step.cells.as_slice().to_vec(alloc)?;
+        match self {
+            ShownStream::Live(stream) => stream.push(cells, buf),
+            ShownStream::Sized(stream) => stream.push(step.height, cells, buf),
+        }
+    }
+
+    // Lends a row to a stream that takes such rows.
+    fn lend(&mut self, cells: &[String], buf: &mut Buffer<'m>) -> Result<(), StreamFault> {
+        match self {
+            ShownStream::Live(stream) => stream.push_lent(cells, buf),
+            ShownStream::Sized(_) => Ok(()),
+        }
+    }
+
+    // Ends the table.
+    fn finish(self, buf: &mut Buffer<'m>) -> Result<(), StreamFault> {
+        match self {
+            ShownStream::Live(stream) => stream.finish(buf),
+            ShownStream::Sized(stream) => stream.finish(buf),
+        }
+    }
 }
