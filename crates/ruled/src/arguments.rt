@@ -11,6 +11,8 @@ use std::env::VarError;
 use std::io::IsTerminal;
 use std::{env, io, mem};
 
+static QUOTES: [&str; 1] = ["none"];
+
 static RAGGED: [&str; 2] = ["pad", "cut"];
 
 static WHEN: [&str; 2] = ["always", "auto"];
@@ -61,6 +63,8 @@ enum Takes {
     Look,
     /// The name of a side.
     Side,
+    /// What quotes mean.
+    Quote,
     /// What happens to ragged rows.
     Ragged,
     /// When something is done, behind `=`, or nothing.
@@ -94,7 +98,7 @@ const FLAG: Choice = Choice {
 };
 
 /// All arguments, in the order of the help.
-const CHOICES: [Choice; 30] = [
+const CHOICES: [Choice; 31] = [
     Choice {
         name: "file",
         value: "FILE",
@@ -138,6 +142,13 @@ const CHOICES: [Choice; 30] = [
         value: "C",
         takes: Takes::Text,
         help: "Separate fields by this character, or by tabs if it is the word tab; without it the first line sets or shows it",
+        ..FLAG
+    },
+    Choice {
+        name: "quote",
+        value: "HOW",
+        takes: Takes::Quote,
+        help: "Read quotes as ordinary characters (none), so that fields end at each delimiter and rows at each line end",
         ..FLAG
     },
     Choice {
@@ -346,6 +357,7 @@ fn argument<'a>(alloc: Global, choice: &Choice, looks: &'a [&'a str]) -> Arg<'a>
             .value_parser(looks)
             .default_value("sharp"),
         Takes::Side => option(alloc, choice).value_parser(SIDES.as_slice()),
+        Takes::Quote => option(alloc, choice).value_parser(QUOTES.as_slice()),
         Takes::Ragged => option(alloc, choice).value_parser(RAGGED.as_slice()),
         Takes::When => option(alloc, choice)
             .num_args(0..=1)

@@ -1,7 +1,7 @@
 //! The source that the arguments name: which file, in which format, and what is read of it.
 
 use clap::ArgMatches;
-use ruled_io::{Format, Kind, Known, Log, Query, RowRules, Selection, Source};
+use ruled_io::{Fields, Format, Kind, Known, Log, Query, RowRules, Selection, Source};
 use ruled_table::Options;
 use std::alloc::{AllocError, Global};
 use std::mem;
@@ -127,10 +127,19 @@ fn comment_asked(found: &ArgMatches) -> Result<Option<u8>, &'static str> {
     }
 }
 
-// Which lines are rows, and how long these may be.
+// How fields are written: in quotes or without, unless these are characters like any other.
+fn fields_asked(found: &ArgMatches) -> Fields {
+    match found.get_str("quote") {
+        Some(_) => Fields::Plain,
+        None => Fields::Quoted,
+    }
+}
+
+// Which lines are rows, how long these may be, and how their fields are written.
 fn rules_asked(found: &ArgMatches) -> Result<RowRules, &'static str> {
     Ok(RowRules {
         is_ragged: found.get_str("ragged").is_some(),
+        fields: fields_asked(found),
         skipped: found.get_one::<u32>("skip").unwrap_or(0) as usize,
         comment: comment_asked(found)?,
     })
@@ -140,6 +149,7 @@ fn rules_asked(found: &ArgMatches) -> Result<RowRules, &'static str> {
 fn asks_for_lines(found: &ArgMatches) -> bool {
     found.get_one::<u32>("skip").is_some()
         || found.get_str("comment").is_some()
+        || found.get_str("quote").is_some()
         || found.get_str("names").is_some()
 }
 
@@ -149,7 +159,7 @@ fn separated(source: Source) -> Result<Source, &'static str> {
         Source::Seen { rules, .. } => Ok(Source::Values { rules }),
         Source::Values { .. } | Source::Rows(Format::Separated(_)) => Ok(source),
         Source::Rows(_) | Source::Database { .. } => {
-            Err("--skip, --comment and --names need separated values")
+            Err("--skip, --comment, --quote and --names need separated values")
         }
     }
 }

@@ -1,7 +1,9 @@
 //! What the lines of a case say.
 
 use pg_layout::AlignmentHorizontal;
-use ruled_io::{Format, Kind, Known, Log, Query, Request, RowRules, Rows, Selection, Source};
+use ruled_io::{
+    Fields, Format, Kind, Known, Log, Query, Request, RowRules, Rows, Selection, Source,
+};
 use ruled_table::{Look, Options, Overflow, Vertical};
 use std::alloc::{AllocError, Global};
 use std::mem;
@@ -123,10 +125,19 @@ fn add(alloc: Global, view: &mut Options, name: &str, value: &str) -> Result<boo
     Ok(true)
 }
 
-// Sets which lines are rows, where an option of this name with this value does so.
+// How fields are written, as a word says it.
+fn fields_of(word: &str) -> Option<Fields> {
+    match word {
+        "plain" => Some(Fields::Plain),
+        _ => None,
+    }
+}
+
+// Sets which lines are rows, or how their fields are written, where an option of this name with this value does so.
 fn set_rule(rules: &mut RowRules, name: &str, value: &str) -> Option<()> {
     match name {
         "ragged" => rules.is_ragged = true,
+        "fields" => rules.fields = fields_of(value)?,
         "skip" => rules.skipped = value.parse().ok()?,
         "comment" => rules.comment = value.as_bytes().first().copied(),
         _ => return None,

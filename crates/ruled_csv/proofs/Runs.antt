@@ -5,13 +5,14 @@ use Rattle.std.specs.List.{list_all}
 use Rattle.std.specs.Option.{option_or, unwrap_or}
 use Rattle.std.specs.List.{slice_range}
 use Rattle.std.proofs.lemmas.Bool.{and_parts, cases_Bool, cases_lt, false≢true, false_from_ne_true, ne_eqb}
+use Rattle.std.proofs.Math.Bool.{and-false}
 use Rattle.std.proofs.lemmas.List.{get_or-drop, length-drop, take_more}
 use Rattle.std.proofs.lemmas.List.Sums.{fold-append}
 use Rattle.csv.specs.declared.parser.State.{State}
 use Rattle.csv.specs.declared.parser.State.TheVariants as st
 use Rattle.memchr.specs.Find.{IsFirstByte, is_byte, is_byte3, places_from}
 use Rattle.ruled_csv.specs.Inside.{Hand, Joins, Scan, calm_lines, fields_behind, hand_cut, is_bare, is_calm, scan_after, scan_from, state_of}
-use Rattle.ruled_csv.specs.Quotes.{is_closing, is_quoted}
+use Rattle.ruled_csv.specs.Quotes.{has_quotes, is_closing, is_quoted}
 use Rattle.ruled_csv.specs.declared.scanner.Standing.{Standing}
 use Rattle.ruled_csv.specs.declared.scanner.Standing.TheVariants as at
 use Rattle.ruled_csv.specs.declared.dialect.Dialect.{Dialect}
@@ -66,7 +67,7 @@ quoted-byte : (dialect : Dialect) (s : Scan) (byte : ℕ) → is_calm byte ≡ t
     → scan_after dialect s byte ≡ record s { hand = record s.hand { field = s.hand.field ++ byte ∷ []; lines = calm_lines s.hand.lines } }
 quoted-byte dialect s byte calm quoted =
     let no = calm-parts byte calm in
-    rw (quoted, no.quote, no.return, no.feed)
+    rw (quoted, no.quote, and-false (has_quotes dialect.rows.fields), no.return, no.feed)
     (same-scan s (record { state = st.InQuoted; fields = s.hand.fields; field = s.hand.field ++ byte ∷ []; lines = calm_lines s.hand.lines; opened = s.hand.opened }))
 
 quoted-run : (dialect : Dialect) (s : Scan) (byte : ℕ) (rest : List ℕ) → list_all is_calm (byte ∷ rest) ≡ true → s.hand.state ≡ st.InQuoted
@@ -103,20 +104,20 @@ bare-byte : (dialect : Dialect) (s : Scan) (byte : ℕ) (before : Standing) → 
 bare-byte dialect s byte at.Row calm is bare =
     let no = calm-parts byte calm in
     elim (cases_Bool (byte == dialect.delimiter)) [
-      | inl ends ↦ rw (is, no.quote, no.return, no.feed, ends) (same-scan s (ended-field s.hand))
-      | inr joins ↦ rw (is, no.quote, no.return, no.feed, joins) (same-scan s (joined-field s.hand byte))
+      | inl ends ↦ rw (is, no.quote, and-false (has_quotes dialect.rows.fields), no.return, no.feed, ends) (same-scan s (ended-field s.hand))
+      | inr joins ↦ rw (is, no.quote, and-false (has_quotes dialect.rows.fields), no.return, no.feed, joins) (same-scan s (joined-field s.hand byte))
     ]
 bare-byte dialect s byte at.Return calm is bare =
     let no = calm-parts byte calm in
     elim (cases_Bool (byte == dialect.delimiter)) [
-      | inl ends ↦ rw (is, no.quote, no.return, no.feed, ends) (same-scan s (ended-field s.hand))
-      | inr joins ↦ rw (is, no.quote, no.return, no.feed, joins) (same-scan s (joined-field s.hand byte))
+      | inl ends ↦ rw (is, no.quote, and-false (has_quotes dialect.rows.fields), no.return, no.feed, ends) (same-scan s (ended-field s.hand))
+      | inr joins ↦ rw (is, no.quote, and-false (has_quotes dialect.rows.fields), no.return, no.feed, joins) (same-scan s (joined-field s.hand byte))
     ]
 bare-byte dialect s byte at.Field calm is bare =
     let no = calm-parts byte calm in
     elim (cases_Bool (byte == dialect.delimiter)) [
-      | inl ends ↦ rw (is, no.quote, no.return, no.feed, ends) (same-scan s (ended-field s.hand))
-      | inr joins ↦ rw (is, no.quote, no.return, no.feed, joins) (same-scan s (joined-field s.hand byte))
+      | inl ends ↦ rw (is, no.quote, and-false (has_quotes dialect.rows.fields), no.return, no.feed, ends) (same-scan s (ended-field s.hand))
+      | inr joins ↦ rw (is, no.quote, and-false (has_quotes dialect.rows.fields), no.return, no.feed, joins) (same-scan s (joined-field s.hand byte))
     ]
 bare-byte dialect s byte at.Plain calm is bare =
     let no = calm-parts byte calm in

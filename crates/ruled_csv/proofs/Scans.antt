@@ -4,13 +4,14 @@ use Rattle.std.specs.Prelude.{◌==◌, if◌then◌else◌}
 use Rattle.std.specs.List.{cons_option}
 use Rattle.std.proofs.lemmas.Bool.{cases_Bool, and_parts}
 use Rattle.std.proofs.lemmas.List.Sums.{fold-append}
+use Rattle.std.proofs.Math.Bool.{and-false}
 use Rattle.std.proofs.Math.Seq.{take-append_seam}
 use Rattle.csv.specs.Machine.{ends_at_end, field_after, fields_after, is_end, next_record, step}
 use Rattle.csv.specs.Reading.{records, records_from, records_next, is_bom, strip_bom}
 use Rattle.csv.specs.declared.parser.State.{State}
 use Rattle.csv.specs.declared.parser.State.TheVariants as st
 use Rattle.ruled_csv.specs.Inside.{Scan, last_row, scan_after, scan_from, scan_of, scan_start, with_row}
-use Rattle.ruled_csv.specs.Quotes.{state_from, config_of}
+use Rattle.ruled_csv.specs.Quotes.{state_from, config_of, has_quotes}
 use Rattle.ruled_csv.specs.Rows.{ended_in}
 use Rattle.ruled_csv.specs.declared.dialect.Dialect.{Dialect}
 use Rattle.std.specs.Cmp.Lexicographic.{pointwise}
@@ -78,25 +79,31 @@ letter-joins dialect s = elim (cases_Bool (120 == dialect.delimiter)) [
   | inl is ↦ go s is
   | inr other ↦ go2 s other
 ] where
+  none : (has_quotes dialect.rows.fields && false) ≡ false
+  none = and-false (has_quotes dialect.rows.fields)
+
+  same : (has_quotes dialect.rows.fields && true && false) ≡ false
+  same = and-false (has_quotes dialect.rows.fields && true)
+
   go : (s : State) → (120 == dialect.delimiter) ≡ true → (is_end (step (config_of dialect) s 120).1 ≡ false) × (ends_at_end (step (config_of dialect) s 120).0 ≡ true)
-  go st.StartRecord is = rw is (refl, refl)
-  go st.StartField is = rw is (refl, refl)
+  go st.StartRecord is = rw (none, is) (refl, refl)
+  go st.StartField is = rw (none, is) (refl, refl)
   go st.InField is = rw is (refl, refl)
-  go st.InQuoted is = (refl, refl)
-  go st.AfterQuote is = rw is (refl, refl)
+  go st.InQuoted is = rw none (refl, refl)
+  go st.AfterQuote is = rw (same, is) (refl, refl)
   go st.InEscape is = (refl, refl)
   go st.InComment is = (refl, refl)
-  go st.AfterCr is = rw is (refl, refl)
+  go st.AfterCr is = rw (none, is) (refl, refl)
 
   go2 : (s : State) → (120 == dialect.delimiter) ≡ false → (is_end (step (config_of dialect) s 120).1 ≡ false) × (ends_at_end (step (config_of dialect) s 120).0 ≡ true)
-  go2 st.StartRecord is = rw is (refl, refl)
-  go2 st.StartField is = rw is (refl, refl)
+  go2 st.StartRecord is = rw (none, is) (refl, refl)
+  go2 st.StartField is = rw (none, is) (refl, refl)
   go2 st.InField is = rw is (refl, refl)
-  go2 st.InQuoted is = (refl, refl)
-  go2 st.AfterQuote is = rw is (refl, refl)
+  go2 st.InQuoted is = rw none (refl, refl)
+  go2 st.AfterQuote is = rw (same, is) (refl, refl)
   go2 st.InEscape is = (refl, refl)
   go2 st.InComment is = (refl, refl)
-  go2 st.AfterCr is = rw is (refl, refl)
+  go2 st.AfterCr is = rw (none, is) (refl, refl)
 
 all-but-last : {X : Type 0} (xs : List X) (x : X) → take (length (xs ++ x ∷ []) - 1) (xs ++ x ∷ []) ≡ xs
 all-but-last xs x =

@@ -1,6 +1,6 @@
 -- Where quotes may stand. The reading of `csv` opens a quote at the start of a field and closes it at the next one that isn't
 -- doubled; a right text closes each quote, and ends the field behind it.
-use Rattle.std.specs.Prelude.{ℕ, zero, suc, ◌+◌, ◌&&◌, ◌||◌, Bool, true, false, List, fold, length, take, Option, Some, None, option_map, if◌then◌else◌}
+use Rattle.std.specs.Prelude.{ℕ, zero, suc, ◌+◌, ◌==◌, ◌&&◌, ◌||◌, Bool, true, false, List, fold, length, take, Option, Some, None, option_map, if◌then◌else◌}
 use Rattle.std.specs.List.{find, range_with_len}
 use Rattle.std.specs.Option.{option_or}
 use Rattle.csv.specs.Machine.{step}
@@ -10,12 +10,23 @@ use Rattle.ruled_csv.specs.Lines.{line_behind}
 use Rattle.ruled_csv.specs.declared.fault.RowsFault.{RowsFault}
 use Rattle.ruled_csv.specs.declared.fault.RowsFault.TheVariants.{OpenQuote, BehindQuote}
 use Rattle.ruled_csv.specs.declared.dialect.Dialect.{Dialect}
+use Rattle.ruled_csv.specs.declared.dialect.Fields.{Fields}
+use Rattle.ruled_csv.specs.declared.dialect.Fields.TheVariants.{Quoted, Plain}
 use Rattle.csv.specs.declared.parser.Config.{Config}
 use Rattle.csv.specs.Reading.{default_config}
 
--- the fields are parted by this byte, and quoted as in CSV
+-- fields may be in quotes
+abbrev pub has_quotes : Fields → Bool
+has_quotes Quoted = true
+has_quotes Plain = false
+
+-- a byte may open or close a quote
+abbrev pub is_quote : Fields → ℕ → Bool
+is_quote fields byte = has_quotes fields && (byte == 34)
+
+-- the fields are parted by this byte, and quoted as in CSV, unless a quote is a byte like any other
 abbrev pub config_of : Dialect → Config
-config_of dialect = record default_config { delimiter = dialect.delimiter }
+config_of dialect = record default_config { delimiter = dialect.delimiter; quoting = has_quotes dialect.rows.fields }
 
 -- where the reading of `csv` stands behind these bytes, from a state on
 abbrev pub state_from : Dialect → State → List ℕ → State

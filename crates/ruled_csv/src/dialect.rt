@@ -2,21 +2,45 @@
 
 ghost use Rattle.std.specs.Prelude.{◌≡◌, ◌∷◌, [], ◌||◌, nat_le};
 ghost use Rattle.ruled_csv.specs.Lines.{is_comment};
+ghost use Rattle.ruled_csv.specs.Quotes.{has_quotes, is_quote};
 
 /// How rows are written.
 #[derive(Clone, Copy)]
 pub struct Dialect {
     /// The byte between two fields.
     pub delimiter: u8,
-    /// Which lines hold rows, and how long these may be.
+    /// Which lines hold rows, how long these may be, and how their fields are written.
     pub rows: RowRules,
 }
 
-/// Which lines of separated values hold rows, and how long these may be.
+/// How the fields of a row are written, with the delimiter between two of them.
+#[derive(Clone, Copy)]
+pub enum Fields {
+    /// In quotes, or without.
+    Quoted,
+    /// Without: a quote is a byte like any other.
+    Plain,
+}
+
+impl Fields {
+    // Whether a field may be in quotes.
+    fn has_quotes(self) -> bool
+        ensures { result ≡ has_quotes self }
+    {
+        match self {
+            Fields::Quoted => true,
+            Fields::Plain => false,
+        }
+    }
+}
+
+/// Which lines of separated values hold rows, how long these may be, and how their fields are written.
 #[derive(Clone, Copy)]
 pub struct RowRules {
     /// Whether a row may have more or fewer fields than row 0.
     pub is_ragged: bool,
+    /// How fields are written.
+    pub fields: Fields,
     /// How many lines at the front are left out: they are read as empty ones.
     pub skipped: usize,
     /// A line that begins with this byte is left out, unless it begins within a row.
@@ -24,12 +48,20 @@ pub struct RowRules {
 }
 
 impl RowRules {
-    /// Each line that isn't empty is in a row, and rows have one length.
+    /// Each line that isn't empty is in a row, rows have one length, and fields may be in quotes.
     pub const PLAIN: RowRules = RowRules {
         is_ragged: false,
+        fields: Fields::Quoted,
         skipped: 0,
         comment: None,
     };
+
+    /// Whether this byte may open or close a quote.
+    pub fn is_quote(self, byte: u8) -> bool
+        ensures { result ≡ is_quote self.fields byte }
+    {
+        self.fields.has_quotes() && byte == b'"'
+    }
 
     /// Whether this line is left out, if it begins with this byte, but not within a row.
     pub(crate) fn leave_out(self, line: usize, byte: u8) -> bool

@@ -9,7 +9,7 @@ mod reader;
 mod records;
 mod scanner;
 
-pub use crate::dialect::{Dialect, RowRules};
+pub use crate::dialect::{Dialect, Fields, RowRules};
 pub use crate::fault::RowsFault;
 pub use crate::first_row::{from_first_row, without_mark};
 pub use crate::lines::lines_left_out_count;

@@ -98,7 +98,7 @@ fn first_step(dialect: Dialect, byte: u8) -> Step
     ensures opens { is_open result.act ≡ not (is_bare (state_of result.next)) }
     ensures behind { is_act_behind result.act ≡ false }
 {
-    if byte == b'"' {
+    if dialect.rows.is_quote(byte) {
         return Step {
             next: Standing::Quoted,
             act: Act::Open,
@@ -108,12 +108,12 @@ fn first_step(dialect: Dialect, byte: u8) -> Step
 }
 
 // What a byte does inside quotes.
-fn quoted_step(byte: u8) -> Step
-    ensures step { (dialect : Dialect) → step_of result ≡ step (config_of dialect) st.InQuoted byte }
+fn quoted_step(dialect: Dialect, byte: u8) -> Step
+    ensures step { step_of result ≡ step (config_of dialect) st.InQuoted byte }
     ensures opens { is_open result.act ≡ false }
     ensures behind { is_act_behind result.act ≡ false }
 {
-    let (next, act) = if byte == b'"' {
+    let (next, act) = if dialect.rows.is_quote(byte) {
         (Standing::Closing, Act::Pass)
     } else {
         (Standing::Quoted, Act::Join)
@@ -149,8 +149,8 @@ impl Standing {
             },
             Standing::Row | Standing::Return | Standing::Field => first_step(dialect, byte),
             Standing::Plain => plain_step(dialect, byte),
-            Standing::Quoted => quoted_step(byte),
-            Standing::Closing if byte == b'"' => Step {
+            Standing::Quoted => quoted_step(dialect, byte),
+            Standing::Closing if dialect.rows.is_quote(byte) => Step {
                 next: Standing::Quoted,
                 act: Act::Join,
             },

@@ -11,6 +11,7 @@ use Rattle.std.proofs.lemmas.List.Folds.{find-append}
 use Rattle.csv.specs.Reading.{is_bom, strip_bom}
 use Rattle.ruled_csv.specs.Lines.{is_comment, line_behind}
 use Rattle.ruled_csv.specs.Kept.{first_row_behind, from_first_row}
+use Rattle.ruled_csv.specs.Quotes.{is_quote}
 use Rattle.ruled_csv.specs.declared.dialect.RowRules.{RowRules}
 use Rattle.ruled_io.specs.Formats.{count_of, delimiter_seen, ends_line, first_line, first_sign, format_from, format_shown, is_database, outside, separated, setting_in, setting_of, values_seen}
 use Rattle.ruled_io.specs.Reading.{HoldsOn, SetsAlike, ShowsInput, ShowsText}
@@ -143,40 +144,42 @@ line-short text =
     omega (arith, same)
 
 -- how often a line has a byte from a place on: that of the next byte, and from there on
-abbrev counted : ℕ → Bool → List ℕ → ℕ
-counted byte is_quoted line = count_by (λ other. other == byte) (outside is_quoted line)
+abbrev counted : RowRules → ℕ → Bool → List ℕ → ℕ
+counted rules byte is_quoted line = count_by (λ other. other == byte) (outside rules is_quoted line)
 
-module _ (line : List ℕ) (i byte count : ℕ) (is_quoted : Bool) (within : i < length line) (before : count + counted byte is_quoted (drop i line) ≡ count_of line byte) where
+module _ (rules : RowRules) (line : List ℕ) (i byte count : ℕ) (is_quoted : Bool) (within : i < length line) (before : count + counted rules byte is_quoted (drop i line) ≡ count_of rules line byte) where
   next : drop i line ≡ get_or line i 0 ∷ drop (i + 1) line
   next = drop-cons line i 0 within ∙ ap (λ (n : ℕ). get_or line i 0 ∷ drop n line) (sym (add-one i))
 
-  from-here : count + counted byte is_quoted (get_or line i 0 ∷ drop (i + 1) line) ≡ count_of line byte
+  from-here : count + counted rules byte is_quoted (get_or line i 0 ∷ drop (i + 1) line) ≡ count_of rules line byte
   from-here = rw next at before
 
   -- a quote turns the side
-  pub turns : get_or line i 0 ≡ 34 → count + counted byte (not is_quoted) (drop (i + 1) line) ≡ count_of line byte
+  pub turns : is_quote rules.fields (get_or line i 0) ≡ true → count + counted rules byte (not is_quoted) (drop (i + 1) line) ≡ count_of rules line byte
   turns quote = rw quote at from-here
 
   -- a byte in quotes, or another one, counts for nothing
-  pub passes : get_or line i 0 ≢ 34 → (is_quoted ≡ true) ⊎ (get_or line i 0 ≢ byte) → count + counted byte is_quoted (drop (i + 1) line) ≡ count_of line byte
-  passes other either = go is_quoted either (rw (ne_eqb (get_or line i 0) 34 other) at from-here) where
+  pub passes : is_quote rules.fields (get_or line i 0) ≡ false → (is_quoted ≡ true) ⊎ (get_or line i 0 ≢ byte) → count + counted rules byte is_quoted (drop (i + 1) line) ≡ count_of rules line byte
+  passes other either = go is_quoted either (rw other at from-here) where
     go : (q : Bool) → (q ≡ true) ⊎ (get_or line i 0 ≢ byte)
-        → count + count_by (λ other. other == byte) (if q then outside q (drop (i + 1) line) else get_or line i 0 ∷ outside q (drop (i + 1) line)) ≡ count_of line byte → count + counted byte q (drop (i + 1) line) ≡ count_of line byte
+        → count + count_by (λ other. other == byte) (if q then outside rules q (drop (i + 1) line) else get_or line i 0 ∷ outside rules q (drop (i + 1) line)) ≡ count_of rules line byte
+        → count + counted rules byte q (drop (i + 1) line) ≡ count_of rules line byte
     go true either is = is
     go false (inl never) is = absurd (false≢true never)
     go false (inr differs) is =
-        let rest : List ℕ = outside false (drop (i + 1) line) in
+        let rest : List ℕ = outside rules false (drop (i + 1) line) in
         let none : count_by (λ other. other == byte) (get_or line i 0 ∷ rest) ≡ 0 + count_by (λ other. other == byte) rest = sum_by-cons (λ (x : ℕ). if x == byte then 1 else 0) (get_or line i 0) rest ∙ rw (ne_eqb (get_or line i 0) byte differs) refl in
         omega (arith, is, none)
 
   -- the byte counts outside them
-  pub counts : get_or line i 0 ≢ 34 → is_quoted ≡ false → get_or line i 0 ≡ byte → (count + 1) + counted byte is_quoted (drop (i + 1) line) ≡ count_of line byte
-  counts other bare same = go is_quoted bare (rw (ne_eqb (get_or line i 0) 34 other) at from-here) where
+  pub counts : is_quote rules.fields (get_or line i 0) ≡ false → is_quoted ≡ false → get_or line i 0 ≡ byte → (count + 1) + counted rules byte is_quoted (drop (i + 1) line) ≡ count_of rules line byte
+  counts other bare same = go is_quoted bare (rw other at from-here) where
     go : (q : Bool) → q ≡ false
-        → count + count_by (λ other. other == byte) (if q then outside q (drop (i + 1) line) else get_or line i 0 ∷ outside q (drop (i + 1) line)) ≡ count_of line byte → (count + 1) + counted byte q (drop (i + 1) line) ≡ count_of line byte
+        → count + count_by (λ other. other == byte) (if q then outside rules q (drop (i + 1) line) else get_or line i 0 ∷ outside rules q (drop (i + 1) line)) ≡ count_of rules line byte
+        → (count + 1) + counted rules byte q (drop (i + 1) line) ≡ count_of rules line byte
     go true never is = absurd (false≢true (sym never))
     go false none is =
-        let rest : List ℕ = outside false (drop (i + 1) line) in
+        let rest : List ℕ = outside rules false (drop (i + 1) line) in
         let one : count_by (λ other. other == byte) (get_or line i 0 ∷ rest) ≡ 1 + count_by (λ other. other == byte) rest = sum_by-cons (λ (x : ℕ). if x == byte then 1 else 0) (get_or line i 0) rest ∙ rw (eq-eqb (get_or line i 0) byte same) refl in
         omega (arith, is, one)
 

@@ -6,6 +6,8 @@ use Rattle.std.specs.Option.{option_map_or}
 use Rattle.csv.specs.Reading.{strip_bom}
 use Rattle.json.specs.Word.{is_space}
 use Rattle.ruled_csv.specs.Kept.{from_first_row}
+use Rattle.ruled_csv.specs.Quotes.{is_quote}
+use Rattle.ruled_csv.specs.declared.dialect.Fields.TheVariants as fields
 use Rattle.ruled_csv.specs.declared.dialect.RowRules.{RowRules}
 use Rattle.ruled_json.specs.Faults.{is_value}
 use Rattle.ruled_io.specs.declared.formats.Format.{Format}
@@ -21,9 +23,9 @@ use Rattle.ruled_io.specs.declared.formats.Kind.TheVariants.{Rows, Database}
 abbrev pub separated : ℕ → RowRules → Format
 separated delimiter rules = Separated (record { delimiter = delimiter; rows = rules })
 
--- each line that isn't empty is in a row, and rows have one length
+-- each line that isn't empty is in a row, rows have one length, and fields may be in quotes
 abbrev pub plain : RowRules
-plain = record { is_ragged = false; skipped = 0; comment = None }
+plain = record { is_ragged = false; fields = fields.Quoted; skipped = 0; comment = None }
 
 abbrev pub kind_named : List ℕ → Option Kind
 kind_named name =
@@ -51,24 +53,24 @@ first_line bytes = option_map_or (λ end. take end bytes) (position ends_line by
 -- ---- the delimiter
 
 -- the bytes of a line outside quotes, where its front is in quotes or not
-abbrev pub outside : Bool → List ℕ → List ℕ
-outside is_quoted [] = []
-outside is_quoted (byte ∷ line) =
-    if byte == 34 then outside (not is_quoted) line
-    else if is_quoted then outside is_quoted line
-    else byte ∷ outside is_quoted line
+abbrev pub outside : RowRules → Bool → List ℕ → List ℕ
+outside rules is_quoted [] = []
+outside rules is_quoted (byte ∷ line) =
+    if is_quote rules.fields byte then outside rules (not is_quoted) line
+    else if is_quoted then outside rules is_quoted line
+    else byte ∷ outside rules is_quoted line
 
 -- how often a line has a byte outside quotes
-abbrev pub count_of : List ℕ → ℕ → ℕ
-count_of line byte = count_by (λ other. other == byte) (outside false line)
+abbrev pub count_of : RowRules → List ℕ → ℕ → ℕ
+count_of rules line byte = count_by (λ other. other == byte) (outside rules false line)
 
 -- which of two bytes a line has more often; if equally often, the first
-abbrev pub oftener : List ℕ → ℕ → ℕ → ℕ
-oftener line first second = if nat_lt (count_of line first) (count_of line second) then second else first
+abbrev pub oftener : RowRules → List ℕ → ℕ → ℕ → ℕ
+oftener rules line first second = if nat_lt (count_of rules line first) (count_of rules line second) then second else first
 
 -- a comma, a tab, a semicolon or a bar: the one that a line has most often
-abbrev pub most_frequent : List ℕ → ℕ
-most_frequent line = oftener line (oftener line (oftener line 44 9) 59) 124
+abbrev pub most_frequent : RowRules → List ℕ → ℕ
+most_frequent rules line = oftener rules line (oftener rules line (oftener rules line 44 9) 59) 124
 
 -- a first line such as `sep=;` sets the delimiter: an ASCII character other than a quote
 abbrev pub setting_in : List ℕ → Option ℕ
@@ -82,7 +84,7 @@ setting_of rules text = if rules.skipped == 0 then setting_in (first_line text) 
 
 -- the delimiter that a text sets, or else the most frequent one of the line on which its first row begins
 abbrev pub delimiter_seen : RowRules → List ℕ → ℕ
-delimiter_seen rules text = unwrap_or (setting_of rules text) (most_frequent (first_line (from_first_row rules text)))
+delimiter_seen rules text = unwrap_or (setting_of rules text) (most_frequent rules (first_line (from_first_row rules text)))
 
 -- ---- the format
 

@@ -119,12 +119,12 @@ fn first_line(bytes: &[u8]) -> &[u8]
 }
 
 // How often a line has a byte outside quotes.
-fn count_of(line: &[u8], byte: u8) -> usize
-    ensures { result ≡ spec.count_of line.now byte }
+fn count_of(rules: RowRules, line: &[u8], byte: u8) -> usize
+    ensures { result ≡ spec.count_of rules line.now byte }
 {
     let (mut is_quoted, mut count) = (false, 0usize);
     for other in line {
-        if *other == b'"' {
+        if rules.is_quote(*other) {
             is_quoted = !is_quoted;
         } else if !is_quoted && *other == byte {
             count += 1;
@@ -134,10 +134,10 @@ fn count_of(line: &[u8], byte: u8) -> usize
 }
 
 // Which of two bytes a line has more often; if equally often, the first.
-fn oftener(line: &[u8], first: u8, second: u8) -> u8
-    ensures { result ≡ spec.oftener line.now first second }
+fn oftener(rules: RowRules, line: &[u8], first: u8, second: u8) -> u8
+    ensures { result ≡ spec.oftener rules line.now first second }
 {
-    if count_of(line, first) < count_of(line, second) {
+    if count_of(rules, line, first) < count_of(rules, line, second) {
         second
     } else {
         first
@@ -145,12 +145,12 @@ fn oftener(line: &[u8], first: u8, second: u8) -> u8
 }
 
 // A comma, a tab, a semicolon or a bar: the one that a line has most often.
-fn most_frequent(line: &[u8]) -> u8
-    ensures { result ≡ spec.most_frequent line.now }
+fn most_frequent(rules: RowRules, line: &[u8]) -> u8
+    ensures { result ≡ spec.most_frequent rules line.now }
 {
-    let found = oftener(line, b',', b'\t');
-    let found = oftener(line, found, b';');
-    oftener(line, found, b'|')
+    let found = oftener(rules, line, b',', b'\t');
+    let found = oftener(rules, line, found, b';');
+    oftener(rules, line, found, b'|')
 }
 
 // The delimiter that a line such as `sep=;` sets.
@@ -187,7 +187,7 @@ fn delimiter_seen(rules: RowRules, text: &[u8]) -> u8
 {
     match setting_of(rules, text) {
         Some(delimiter) => delimiter,
-        None => most_frequent(first_line(from_first_row(rules, text))),
+        None => most_frequent(rules, first_line(from_first_row(rules, text))),
     }
 }
 

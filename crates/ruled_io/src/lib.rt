@@ -26,4 +26,4 @@ pub use crate::output::Output;
 pub use crate::pieces::Pieces;
 pub use crate::program::{Ending, run};
 pub use crate::request::{Log, Query, Request, Rows, Selection, Source};
-pub use ruled_csv::{Dialect, RowRules};
+pub use ruled_csv::{Dialect, Fields, RowRules};

@@ -5,4 +5,4 @@ use Rattle.ruled_io.proofs.formats.delimiter_seen.Goals as goal
 pub returns-in-None : goal.returns-in-None
 returns-in-None c =
     let none : setting_of c.args.rules c.args.text.now ≡ None = sym c.setting_of.ensures.setting ∙ c.in-None.is in
-    rw none (c.most_frequent.ensures ∙ ap most_frequent (c.first_line.ensures ∙ ap first_line c.from_first_row.ensures))
+    rw none (c.most_frequent.ensures ∙ ap (most_frequent c.args.rules) (c.first_line.ensures ∙ ap first_line c.from_first_row.ensures))
