@@ -1,3 +1,4 @@
+mod Floats
 mod Listing
 mod Reading
 mod Tabling

@@ -6,6 +6,7 @@ mod definition;
 mod encoding;
 mod fault;
 mod file;
+mod float;
 mod overflow;
 mod page;
 mod schema;

@@ -1,6 +1,6 @@
 //! The rows of a table, as texts.
 
-ghost use Rattle.std.specs.Prelude.{◌≡◌, map, IfErr, IfOk};
+ghost use Rattle.std.specs.Prelude.{◌≡◌, map, IfErr, IfOk, OnOk};
 ghost use Rattle.csv.specs.Records.{fields_of};
 ghost use Rattle.sqlite_record.specs.Affinity.{as_real};
 ghost use Rattle.sqlite_value.specs.Value.{owned};
@@ -69,30 +69,33 @@ fn value_of<'v>(
     }
 }
 
-// The texts of all columns.
+// Puts the texts of all columns in place of those of another row.
 #[tactic(auto, using(crate::proofs::Tabling::text_more))]
-fn texts_of(
+fn read_texts(
     alloc: Global,
     definition: &Definition,
     key: u64,
     values: &Row,
-) -> Result<ByteRecord, AllocError>
-    ensures { IfOk result (λ texts. fields_of texts ≡ texts_in definition.now key values.now) }
+    texts: &mut ByteRecord,
+) -> Result<(), AllocError>
+    ensures { OnOk result (fields_of texts.new ≡ texts_in definition.now key values.now) }
 {
-    let mut texts = ByteRecord::new(alloc);
+    texts.clear();
     for column in definition.columns.as_slice() {
         let value = value_of(definition, column, key, values);
-        push_value(alloc, &mut texts, value)?;
+        push_value(alloc, texts, value)?;
     }
-    Ok(texts)
+    Ok(())
 }
 
-/// What reads rows: their overflow pages, and the record and the values of one row at a time.
+/// What reads rows: their overflow pages, and the record, the values and the texts of one row at a time. A row then
+/// takes no more room than its texts.
 #[derive(Drop)]
 struct RowReader<'a> {
     overflow: Overflow<'a>,
     record: Vec<u8>,
     values: Row,
+    texts: ByteRecord,
 }
 
 impl<'a> RowReader<'a> {
@@ -117,7 +120,8 @@ impl<'a> RowReader<'a> {
         if self.values.len() < definition.least {
             return Err(TableFault::Default);
         }
-        let texts = texts_of(alloc, definition, row.key, &self.values)?;
+        read_texts(alloc, definition, row.key, &self.values, &mut self.texts)?;
+        let texts = self.texts.clone()?;
         let fields = row_of(texts, rows.len())?;
         rows.push(fields)?;
         Ok(())
@@ -139,6 +143,7 @@ pub(crate) fn push_rows(
         overflow: Overflow::of(file),
         record: Vec::new(alloc),
         values: Row::new(alloc),
+        texts: ByteRecord::new(alloc),
     };
     for row in &stored {
         reader.push_row(alloc, definition, row, rows)?;

@@ -8,8 +8,9 @@ ghost use Rattle.ruled_database.specs.Values.{LacksTexts, shown_text};
 ghost use Rattle.ruled_database.specs.declared.fault.TableFault.{TableFault};
 
 use crate::fault::TableFault;
+use crate::float::float_text;
 use csv::{ByteRecord, StringRecord};
-use sqlite_sql::spelling::{of_float, of_integer};
+use itoa::Buffer;
 use sqlite_value::value::ValueRef;
 use std::alloc::{AllocError, Global};
 
@@ -36,8 +37,11 @@ pub fn push_value(
 {
     match value {
         ValueRef::Null => texts.push_field(b""),
-        ValueRef::Int(number) => texts.push_field(of_integer(number).as_slice()),
-        ValueRef::Real(number) => texts.push_field(of_float(number).as_slice()),
+        ValueRef::Int(number) => texts.push_field(Buffer::new().format(number).as_bytes()),
+        ValueRef::Real(number) => {
+            let text = float_text(alloc, number)?;
+            texts.push_field(&text)
+        }
         ValueRef::Text(bytes) => texts.push_field(bytes),
         ValueRef::Blob(bytes) => {
             let text = literal_of(alloc, bytes)?;

@@ -3,7 +3,7 @@ use Rattle.csv.specs.Records.{fields_of, partial_of}
 use Rattle.ruled_database.specs.Values.{shown_text}
 use Rattle.ruled_database.specs.Tables.{value_in}
 use Rattle.ruled_database.specs.declared.definition.Column.{Column}
-use Rattle.ruled_database.proofs.table.texts_of.Given as goal
+use Rattle.ruled_database.proofs.table.read_texts.Given as goal
 
 abbrev pub invariant-loop-column : goal.invariant-loop-column
 invariant-loop-column l = record {
