@@ -5,7 +5,7 @@ use clap::error::ErrorKind;
 use clap::{Arg, ArgAction, ArgMatches, Command};
 use pg_layout::AlignmentHorizontal;
 use ruled_io::{Kind, OneLine, Request, Rows, Source};
-use ruled_table::{Bounds, Breaking, Look, Options, Overflow, Vertical};
+use ruled_table::{Bounds, Breaking, Look, Options, Overflow, Sort, Vertical};
 use std::alloc::{AllocError, Global};
 use std::env::VarError;
 use std::io::IsTerminal;
@@ -98,7 +98,7 @@ const FLAG: Choice = Choice {
 };
 
 /// All arguments, in the order of the help.
-const CHOICES: [Choice; 31] = [
+const CHOICES: [Choice; 32] = [
     Choice {
         name: "file",
         value: "FILE",
@@ -197,6 +197,14 @@ const CHOICES: [Choice; 31] = [
         value: "NAMES",
         takes: Takes::Text,
         help: "Print only these columns, in this order, by their names in row 0, their numbers, as 1-3, or a part of their names, as /pop/; a ! in front leaves them out",
+        ..FLAG
+    },
+    Choice {
+        name: "sort",
+        value: "COLUMN",
+        takes: Takes::Text,
+        conflicts: &["stream"],
+        help: "Sort the rows below the header by this column, by numbers if all its texts are numbers; the greatest comes first if :desc is behind the column",
         ..FLAG
     },
     Choice {
@@ -446,6 +454,18 @@ fn columns_of(alloc: Global, found: &ArgMatches) -> Result<Vec<String>, AllocErr
     Ok(words)
 }
 
+// The column that sorts rows, behind which `:desc` means that the greatest comes first.
+fn sort_of(alloc: Global, word: Option<&str>) -> Result<Option<Sort>, AllocError> {
+    let Some(word) = word else {
+        return Ok(None);
+    };
+    let column = word.strip_suffix(":desc");
+    Ok(Some(Sort {
+        column: String::from_str(alloc, column.unwrap_or(word))?,
+        is_descending: column.is_some(),
+    }))
+}
+
 // The side that a word names, where it names one.
 fn side_of(word: &str) -> Option<AlignmentHorizontal> {
     match word {
@@ -527,6 +547,7 @@ fn view_of(
         sides: sides_of(alloc, found.get_strs("align"))?,
         missing: names_of(alloc, found.get_str("missing"))?,
         names: names_of(alloc, found.get_str("names"))?,
+        sort: sort_of(alloc, found.get_str("sort"))?,
         is_numbered: found.get_flag("number"),
         is_padded: is_padded(found),
         head: found.get_one::<u32>("head"),

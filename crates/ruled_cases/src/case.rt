@@ -48,6 +48,7 @@ impl Case {
             sides: Vec::new(alloc),
             missing: Vec::new(alloc),
             names: Vec::new(alloc),
+            sort: None,
             is_numbered: false,
             is_padded: false,
             head: None,

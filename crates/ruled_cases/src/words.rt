@@ -4,7 +4,7 @@ use pg_layout::AlignmentHorizontal;
 use ruled_io::{
     Fields, Format, Kind, Known, Log, Query, Request, RowRules, Rows, Selection, Source,
 };
-use ruled_table::{Look, Options, Overflow, Vertical};
+use ruled_table::{Look, Options, Overflow, Sort, Vertical};
 use std::alloc::{AllocError, Global};
 use std::mem;
 
@@ -114,6 +114,12 @@ fn add(alloc: Global, view: &mut Options, name: &str, value: &str) -> Result<boo
         "column" => view.columns.push(meant(alloc, value)?)?,
         "name" => view.names.push(meant(alloc, value)?)?,
         "missing" => view.missing.push(meant(alloc, value)?)?,
+        "sort" | "sort-desc" => {
+            view.sort = Some(Sort {
+                column: meant(alloc, value)?,
+                is_descending: name == "sort-desc",
+            });
+        }
         "align" => {
             let Some(side) = side_of(value) else {
                 return Ok(false);

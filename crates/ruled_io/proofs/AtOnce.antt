@@ -13,7 +13,7 @@ use Rattle.ruled_table.specs.Blocks.{blocks_fault, blocks_text, record_block, re
 use Rattle.ruled_table.specs.Faults as tables
 use Rattle.ruled_table.specs.Columns.{column_fault}
 use Rattle.ruled_table.specs.Layouts.{layout_fault, layout_of, start_fault, whole_text}
-use Rattle.ruled_table.specs.Arranged.{arranged, chosen_rows}
+use Rattle.ruled_table.specs.Arranged.{arranged, chosen_fault, chosen_rows, sort_fault}
 use Rattle.ruled_table.specs.Plans.{Plan, is_always, is_in_blocks, leaves_columns_out}
 use Rattle.ruled_table.specs.RowLines.{begun_text}
 use Rattle.ruled_table.specs.View.{all_fault, all_text, measured_fault, shows_blocks, table_fault, whole_fault, whole_table}
@@ -93,6 +93,7 @@ written-draws text bytes wrong old new (Err fault) same fine wrote begun failed 
 -- before anything is drawn
 found-draws : (text : Text) (wrong : Option ViewFault) (old : Option (List ℕ)) (found : ViewFault) → (tables.is_memory found ≡ false → wrong ≡ Some found) → Draws text wrong old old {X = Unit {0}} (Err (of_view found))
 found-draws text wrong old (view.Column name) right = (λ soft. (rw (right refl) refl, Keeps-refl old), λ lost. absurd (false≢true lost))
+found-draws text wrong old view.Sort right = (λ soft. (rw (right refl) refl, Keeps-refl old), λ lost. absurd (false≢true lost))
 found-draws text wrong old view.Totals right = (λ soft. (rw (right refl) refl, Keeps-refl old), λ lost. absurd (false≢true lost))
 found-draws text wrong old view.Memory right = (λ soft. absurd (true≢false soft), λ lost. begins-none old old text (Keeps-refl old))
 
@@ -237,12 +238,16 @@ pub same-draws : {X : Type 0} (text same : Text) (wrong right : Option ViewFault
 same-draws text same wrong right old new result is told drawn = subst (λ (w : Option ViewFault). Draws same w old new result) told (subst (λ (t : Text). Draws t wrong old new result) is drawn)
 
 -- what is wrong with rows of which no word for a column is wrong
-pub wrong-shown : (options : Options) (all rows : List (List Text)) → rows ≡ chosen_rows options all → column_fault options.columns.items (arranged options all) ≡ None → all_fault options rows ≡ table_fault options all
+pub wrong-shown : (options : Options) (all rows : List (List Text)) → rows ≡ chosen_rows options all → chosen_fault options all ≡ None → all_fault options rows ≡ table_fault options all
 wrong-shown options all rows are named = ap (all_fault options) are ∙ ap (λ (f : Option ViewFault). option_or f (all_fault options (chosen_rows options all))) (sym named)
 
 -- those that are shown have the columns of all
-pub chosen-named : (options : Options) (all rows : List (List Text)) → rows ≡ chosen_rows options all → column_fault options.columns.items (arranged options all) ≡ None → column_fault options.columns.items rows ≡ None
-chosen-named options all rows are none = ap (column_fault options.columns.items) are ∙ tables-named options all none
+pub chosen-named : (options : Options) (all rows : List (List Text)) → rows ≡ chosen_rows options all → chosen_fault options all ≡ None → column_fault options.columns.items rows ≡ None
+chosen-named options all rows are none = ap (column_fault options.columns.items) are ∙ tables-named options all (second-none (sort_fault options all) (column_fault options.columns.items (arranged options all)) none)
+  where
+    second-none : {X : Type 0} (first second : Option X) → option_or first second ≡ None → second ≡ None
+    second-none None second none = none
+    second-none (Some x) second none = absurd (cc)
 
 -- a row less
 pub drop-one : {X Y : Type 0} (f : X → Y) (xs : List X) → map f (drop 1 xs) ≡ drop 1 (map f xs)

@@ -8,12 +8,13 @@ use Rattle.pg_layout.specs.Text.{Text}
 use Rattle.ruled_csv.specs.Faults.{rows_fault}
 use Rattle.ruled_csv.proofs.SoundRows.{all-sound}
 use Rattle.ruled_json.specs.Streamed.{streamed_line_fault}
-use Rattle.ruled_table.specs.Arranged.{arranged, chosen_rows, ends_of, even, named, numbered, tails}
+use Rattle.ruled_table.specs.Arranged.{arranged, chosen_rows, ends_of, even, leveled, named, numbered, sort_fault_by, sorted_by_word, tails}
 use Rattle.ruled_table.specs.Columns.{column_fault}
 use Rattle.ruled_table.specs.Layouts.{first_fault, layout_of, start_fault, whole_text}
 use Rattle.ruled_table.specs.Shown.{heads}
 use Rattle.ruled_table.specs.View.{all_fault, all_text, table_fault, table_text, whole_fault, whole_table}
 use Rattle.ruled_table.specs.declared.options.Options.{Options}
+use Rattle.ruled_table.specs.declared.options.Sort.{Sort}
 use Rattle.ruled_io.specs.Faults.{fault_of_json, fault_of_rows, of_view}
 use Rattle.ruled_io.specs.Formats.{content_of}
 use Rattle.ruled_io.specs.Input.{format_fault, input_fault, rows_in, rows_of}
@@ -76,11 +77,11 @@ none-named (name ∷ names) rows none = absurd (cc)
 module _ (options : Options) (each : ShowsEachRow options) where
   same-arranged : (rows : List (List Text)) → arranged options rows ≡ rows
   same-arranged rows =
-      ap (λ (rs : List (List Text)). numbered options (even options rs)) (none-named (map string_bytes options.names.items) rows (ap (map string_bytes) each.names))
-      ∙ rw (each.padded, each.numbered) refl
+      ap (λ (rs : List (List Text)). numbered options (sorted_by_word options options.sort (even options rs))) (none-named (map string_bytes options.names.items) rows (ap (map string_bytes) each.names))
+      ∙ rw (each.padded, each.unsorted, each.numbered) refl
 
   all-needed : rows_needed options ≡ None
-  all-needed = rw (each.padded, each.head) refl
+  all-needed = rw (each.padded, each.unsorted, each.head) refl
 
   module _ (count : ℕ) (rows : List (List Text)) (few : length rows ≤ count) where
     all-first : take count rows ≡ rows
@@ -89,7 +90,8 @@ module _ (options : Options) (each : ShowsEachRow options) where
     one-wrong : first_wrong options count rows None ≡ option_map of_view (table_fault options rows)
     one-wrong =
         let whole : table_fault options rows ≡ option_or (column_fault options.columns.items rows) (whole_fault options rows) =
-        ap (λ (rs : List (List Text)). option_or (column_fault options.columns.items rs) (all_fault options (ends_of options.ends (tails options (heads options rs))))) (same-arranged rows)
+        ap (λ (sort : Option Sort). option_or (option_or (sort_fault_by sort (leveled options rows)) (column_fault options.columns.items (arranged options rows))) (all_fault options (chosen_rows options rows))) each.unsorted
+        ∙ ap (λ (rs : List (List Text)). option_or (column_fault options.columns.items rs) (all_fault options (ends_of options.ends (tails options (heads options rs))))) (same-arranged rows)
         ∙ rw (each.head, each.tail, each.ends, each.vertical) refl
         in
         ap (λ (first : List (List Text)). if length rows == 0 then None else option_map of_view (first_fault options first)) all-first

@@ -111,6 +111,7 @@ is_of_rows (input.Database fault) = false
 is_of_rows input.Log = false
 is_of_rows (input.Stream fault) = false
 is_of_rows (input.Column name) = false
+is_of_rows input.Sort = false
 is_of_rows input.Totals = false
 is_of_rows input.Memory = true
 
@@ -157,6 +158,7 @@ module _ (query : Query) (known : Known) (bytes : List ℕ) (is : known_in query
   of_table input.Log tells = absurd (false≢true (of-input known bytes input.Log (tells refl)))
   of_table (input.Stream fault) tells = absurd (false≢true (of-input known bytes (input.Stream fault) (tells refl)))
   of_table (input.Column name) tells = absurd (false≢true (of-input known bytes (input.Column name) (tells refl)))
+  of_table input.Sort tells = absurd (false≢true (of-input known bytes input.Sort (tells refl)))
   of_table input.Totals tells = absurd (false≢true (of-input known bytes input.Totals (tells refl)))
   of_table input.Memory tells = tt
 
@@ -183,6 +185,7 @@ of_selection source bytes (Err (input.Database fault)) shown lacks = (shown, lac
 of_selection source bytes (Err input.Log) shown lacks = absurd lacks
 of_selection source bytes (Err (input.Stream fault)) shown lacks = absurd lacks
 of_selection source bytes (Err (input.Column name)) shown lacks = absurd lacks
+of_selection source bytes (Err input.Sort) shown lacks = absurd lacks
 of_selection source bytes (Err input.Totals) shown lacks = absurd lacks
 of_selection source bytes (Err input.Memory) shown lacks = tt
 

@@ -95,6 +95,7 @@ above-none (suc n) e = omega arith
 
 soft-view : (found : ViewFault) → is_failure (of_view found) ≡ false → (is_lost found ≡ false) × (Some (of_view found) ≡ Some (but_line (of_view found)))
 soft-view (view.Column name) soft = (refl, refl)
+soft-view view.Sort soft = (refl, refl)
 soft-view view.Totals soft = (refl, refl)
 soft-view view.Memory soft = absurd (true≢false soft)
 

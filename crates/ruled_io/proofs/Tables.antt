@@ -58,6 +58,7 @@ module _ (options : Options) (plan : Plan) where
   -- no room is left for it, or memory was refused
   refused : (above : List (List Text)) (table : TableRows) (row : List Text) (old : Option (List ℕ)) (found : ViewFault) → HasAppended options plan above table → TellsRoom {X = Unit {0}} (HasNoRoom options plan above row) (Err found) → FailsIn options plan above (row ∷ []) old old (of_view found)
   refused above table row old (view.Column name) has tells = (nears-none _ _ old old (begun-on options plan above table above (row ∷ []) has) (Keeps-refl old), λ soft. let totals = (tells refl).0 in cc)
+  refused above table row old view.Sort has tells = (nears-none _ _ old old (begun-on options plan above table above (row ∷ []) has) (Keeps-refl old), λ soft. let totals = (tells refl).0 in cc)
   refused above table row old view.Totals has tells = (
     nears-none _ _ old old (begun-on options plan above table above (row ∷ []) has) (Keeps-refl old),
     λ soft. (

@@ -73,5 +73,6 @@ LacksSelected selection bytes (input.Database fault) = LacksStored selection byt
 LacksSelected selection bytes input.Log = ⊥
 LacksSelected selection bytes (input.Stream fault) = ⊥
 LacksSelected selection bytes (input.Column name) = ⊥
+LacksSelected selection bytes input.Sort = ⊥
 LacksSelected selection bytes input.Totals = ⊥
 LacksSelected selection bytes input.Memory = ⊤

@@ -15,7 +15,7 @@ use Rattle.ruled_database.specs.declared.fault.TableFault.TheVariants as table
 use Rattle.ruled_table.specs.declared.fault.ViewFault.{ViewFault}
 use Rattle.ruled_table.specs.declared.fault.ViewFault.TheVariants as view
 use Rattle.ruled_io.specs.declared.fault.InputFault.{InputFault}
-use Rattle.ruled_io.specs.declared.fault.InputFault.TheVariants.{Rows, Json, Sql, Database, Log, Stream, Column, Totals, Memory}
+use Rattle.ruled_io.specs.declared.fault.InputFault.TheVariants.{Rows, Json, Sql, Database, Log, Stream, Column, Sort, Totals, Memory}
 use Rattle.ruled_io.specs.declared.fault.RunFault.{RunFault}
 use Rattle.ruled_io.specs.declared.fault.RunFault.TheVariants.{Input, Read, Closed, Write}
 use Rattle.ruled_io.specs.declared.output.WriteFault.{WriteFault}
@@ -31,6 +31,7 @@ status_of_input (Database fault) = 2
 status_of_input Log = 2
 status_of_input (Stream fault) = 2
 status_of_input (Column name) = 2
+status_of_input Sort = 2
 status_of_input Totals = 3
 status_of_input Memory = 4
 
@@ -57,6 +58,7 @@ is_memory (Database fault) = false
 is_memory Log = false
 is_memory (Stream fault) = false
 is_memory (Column name) = false
+is_memory Sort = false
 is_memory Totals = false
 is_memory Memory = true
 
@@ -103,6 +105,7 @@ but_line_in (Database fault) = Database fault
 but_line_in Log = Log
 but_line_in (Stream fault) = Stream fault
 but_line_in (Column name) = Column name
+but_line_in Sort = Sort
 but_line_in Totals = Totals
 but_line_in Memory = Memory
 
@@ -169,6 +172,7 @@ fault_of_database (database.Table table.Memory) = Memory
 
 abbrev pub fault_of_view : ViewFault → InputFault
 fault_of_view (view.Column name) = Column name
+fault_of_view view.Sort = Sort
 fault_of_view view.Totals = Totals
 fault_of_view view.Memory = Memory
 

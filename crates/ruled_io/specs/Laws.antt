@@ -21,6 +21,7 @@ pub record ShowsEachRow (options : Options) : Type 0 where
   pub names : options.names.items ≡ []
   pub numbered : options.is_numbered ≡ false
   pub padded : options.is_padded ≡ false
+  pub unsorted : options.sort ≡ None
   pub head : options.head ≡ None
   pub tail : options.tail ≡ None
   pub ends : options.ends ≡ None

@@ -1,5 +1,5 @@
 -- What is asked of a run.
-use Rattle.std.specs.Prelude.{ℕ, ◌-◌, ◌==◌, ◌&&◌, length, max, Bool, true, false, List, Option, Some, None, option_map, if◌then◌else◌}
+use Rattle.std.specs.Prelude.{ℕ, ◌-◌, ◌==◌, ◌&&◌, ◌||◌, is_some, length, max, Bool, true, false, List, Option, Some, None, option_map, if◌then◌else◌}
 use Rattle.ruled_csv.specs.declared.dialect.RowRules.{RowRules}
 use Rattle.ruled_database.specs.Files.{keeps_log}
 use Rattle.ruled_io.specs.Formats as formats
@@ -85,8 +85,8 @@ hides_rows Empty bytes = false
 hides_rows Filled bytes = true
 hides_rows Unknown bytes = formats.is_database bytes && keeps_log bytes
 
--- so many rows are needed of an input, if not all: those that are shown, and row 0, which names the columns, unless names are given
+-- so many rows are needed of an input, if not all, as when they are sorted: those that are shown, and row 0, which names the columns, unless names are given
 abbrev pub rows_needed : Options → Option ℕ
 rows_needed options =
-    if options.is_padded then None
+    if options.is_padded || is_some options.sort then None
     else option_map (λ limit. if length options.names.items == 0 then max 1 limit else limit - 1) (limit_of options)

@@ -42,6 +42,7 @@ LacksRowsAs limit true source bytes (input.Sql fault) = (hides_rows (log_of sour
 LacksRowsAs limit true source bytes (input.Database fault) = (hides_rows (log_of source) bytes ≡ false) × LacksStored (selection_of source) bytes fault
 LacksRowsAs limit true source bytes input.Log = hides_rows (log_of source) bytes ≡ true
 LacksRowsAs limit true source bytes (input.Column name) = ⊥
+LacksRowsAs limit true source bytes input.Sort = ⊥
 LacksRowsAs limit true source bytes input.Totals = ⊥
 LacksRowsAs limit true source bytes input.Memory = ⊤
 

@@ -43,6 +43,8 @@ pub enum InputFault {
     Stream(StreamedFault),
     /// Row 0 has no field of this name, of those that [`ruled_table::Options::columns`] lists, counted from 0.
     Column(usize),
+    /// Row 0 has no column for the word of [`ruled_table::Options::sort`].
+    Sort,
     /// The sizes of the table are too large.
     Totals,
     /// Out of memory.
@@ -129,6 +131,7 @@ impl From<ViewFault> for InputFault {
     fn from(fault: ViewFault) -> InputFault {
         match fault {
             ViewFault::Column(name) => InputFault::Column(name),
+            ViewFault::Sort => InputFault::Sort,
             ViewFault::Totals => InputFault::Totals,
             ViewFault::Memory => InputFault::Memory,
         }
@@ -206,15 +209,21 @@ impl InputFault {
             },
             InputFault::Log => writeln!(err, "{}", words_of(request.source.log())),
             InputFault::Stream(fault) => writeln!(err, "{fault}"),
-            InputFault::Column(name) => {
-                let name = request.view.columns.get(name);
-                let name = Quoted(name.map_or("", |name| name.as_str()));
-                writeln!(err, "no column {name}")
+            InputFault::Column(name) => { tell_column(request.view.columns.get(name), err) }
+            InputFault::Sort => {
+                let sort = request.view.sort.as_ref();
+                tell_column(sort.map(|sort| &sort.column), err)
             }
             InputFault::Totals => writeln!(err, "the sizes are too large"),
             InputFault::Memory => writeln!(err, "out of memory"),
         }
     }
+}
+
+// Writes that no column is meant by a word. An error is the writer's.
+fn tell_column<W: Write>(word: Option<&String>, err: &mut W) -> io::Result<()> {
+    let word = Quoted(word.map_or("", |word| word.as_str()));
+    writeln!(err, "no column {word}")
 }
 
 // The word of a query from which so many bytes are left, up to a blank.

@@ -24,7 +24,7 @@ use std::io::Read;
 pub(crate) fn rows_needed(options: &Options) -> Option<usize>
     ensures { result ≡ rows_needed options.now }
 {
-    if options.is_padded {
+    if options.is_padded || options.sort.is_some() {
         return None;
     }
     let limit = limit_of(options)?;

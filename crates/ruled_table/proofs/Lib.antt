@@ -4,5 +4,6 @@ pub mod Tables
 pub mod RowsInParts
 pub mod RowPictures
 pub mod PlainRecords
+pub mod SortedRows
 pub mod DigitsAlone
 pub mod WordsOfColumns

@@ -1,13 +1,18 @@
 -- The rows of a table, of the rows that an input holds.
-use Rattle.std.specs.Prelude.{ℕ, ◌+◌, ◌-◌, ◌*◌, ◌==◌, nat_lt, max, List, [], ◌∷◌, ◌++◌, codes, drop, length, map, replicate, slice_index_or, string_bytes, take, Option, Some, None, if◌then◌else◌}
+use Rattle.std.specs.Prelude.{ℕ, ◌+◌, ◌-◌, ◌*◌, ◌==◌, nat_lt, max, List, [], ◌∷◌, ◌++◌, codes, drop, length, map, replicate, slice_index_or, string_bytes, take, Option, Some, None, is_none, if◌then◌else◌}
 use Rattle.std.specs.Fmt.{decimal}
 use Rattle.std.specs.List.{range_with_len}
+use Rattle.std.specs.Option.{option_or}
 use Rattle.pg_layout.specs.Text.{Text}
-use Rattle.ruled_table.specs.Columns.{places_of}
+use Rattle.ruled_table.specs.Columns.{column_fault, first_meant, places_of}
 use Rattle.ruled_table.specs.Numbers.{gap}
+use Rattle.ruled_table.specs.Order.{sorted_in}
 use Rattle.ruled_table.specs.Shown.{heads}
 use Rattle.ruled_table.specs.Sides.{body_of}
+use Rattle.ruled_table.specs.declared.fault.ViewFault.{ViewFault}
+use Rattle.ruled_table.specs.declared.fault.ViewFault.TheVariants as fault
 use Rattle.ruled_table.specs.declared.options.Options.{Options}
+use Rattle.ruled_table.specs.declared.options.Sort.{Sort}
 
 -- ---- names
 
@@ -39,6 +44,31 @@ padded (header ∷ rows) = padded_to (longest (header ∷ rows)) header ∷ rows
 abbrev pub even : Options → List (List Text) → List (List Text)
 even options rows = if options.is_padded then padded rows else rows
 
+-- ---- order
+
+-- rows above which names are, of one length
+abbrev pub leveled : Options → List (List Text) → List (List Text)
+leveled options rows = even options (named (map string_bytes options.names.items) rows)
+
+-- the column of a word in row 0
+abbrev pub sort_column : Sort → List (List Text) → Option ℕ
+sort_column sort [] = None
+sort_column sort (header ∷ rows) = first_meant header (string_bytes sort.column)
+
+-- rows sorted by it, if there is one
+abbrev pub sorted_by_word : Options → Option Sort → List (List Text) → List (List Text)
+sorted_by_word options None rows = rows
+sorted_by_word options (Some sort) rows = sorted_in options sort.is_descending (sort_column sort rows) rows
+
+-- row 0 has none
+abbrev pub missing_column : Sort → List (List Text) → Option ViewFault
+missing_column sort [] = None
+missing_column sort (header ∷ rows) = if is_none (first_meant header (string_bytes sort.column)) then Some fault.Sort else None
+
+abbrev pub sort_fault_by : Option Sort → List (List Text) → Option ViewFault
+sort_fault_by None rows = None
+sort_fault_by (Some sort) rows = missing_column sort rows
+
 -- ---- numbers
 
 -- the number of a row; row 0 is a header, and has a sign instead
@@ -55,7 +85,10 @@ numbered options rows = if options.is_numbered then numbered_from (if options.ha
 -- ---- the rows of a table
 
 abbrev pub arranged : Options → List (List Text) → List (List Text)
-arranged options rows = numbered options (even options (named (map string_bytes options.names.items) rows))
+arranged options rows = numbered options (sorted_by_word options options.sort (leveled options rows))
+
+abbrev pub sort_fault : Options → List (List Text) → Option ViewFault
+sort_fault options rows = sort_fault_by options.sort (leveled options rows)
 
 -- ---- the last rows
 
@@ -101,6 +134,10 @@ abbrev pub count_text : Options → List (List Text) → Text
 count_text options rows = count_by options (heads options (arranged options rows)) (length (places_of options.columns.items (arranged options rows)))
 
 -- ---- all of it
+
+-- the word for the column that sorts rows is wrong, or else one for the columns that are shown
+abbrev pub chosen_fault : Options → List (List Text) → Option ViewFault
+chosen_fault options rows = option_or (sort_fault options rows) (column_fault options.columns.items (arranged options rows))
 
 abbrev pub chosen_rows : Options → List (List Text) → List (List Text)
 chosen_rows options rows = ends_of options.ends (tails options (heads options (arranged options rows)))

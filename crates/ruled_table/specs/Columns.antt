@@ -1,5 +1,5 @@
 -- The columns that are shown.
-use Rattle.std.specs.Prelude.{◌≡◌, ℕ, ◌+◌, ◌-◌, ◌^◌, ◌==◌, ◌&&◌, not, nat_le, nat_lt, Bool, List, [], ◌∷◌, drop, length, map, position, reverse, slice_index_or, nat_eq}
+use Rattle.std.specs.Prelude.{◌≡◌, ℕ, ◌+◌, ◌-◌, ◌^◌, ◌==◌, ◌&&◌, not, nat_le, nat_lt, Bool, List, [], ◌∷◌, drop, length, map, position, reverse, slice_get, slice_index_or, nat_eq}
 use Rattle.std.specs.Prelude.{String, string_bytes, Option, Some, None, is_none, option_map, unwrap_or, if◌then◌else◌}
 use Rattle.std.specs.List.{after_first, before_first, ends_with, filter, flat_map, list_any, range_with_len, starts_with}
 use Rattle.std.specs.Option.{option_and_then, option_map_or, option_or}
@@ -83,6 +83,10 @@ unnamed_columns header word = option_map_or (fitting header) (pattern_of word) (
 -- the first column of this name, or else those that the word describes
 abbrev pub columns_of : List Text → Text → List ℕ
 columns_of header word = option_map_or (λ column. column ∷ []) (column_of header word) (unnamed_columns header word)
+
+-- the first one of them
+abbrev pub first_meant : List Text → Text → Option ℕ
+first_meant header word = slice_get (columns_of header word) 0
 
 -- the word after a `!`, unless a column has the name with the `!`
 abbrev pub excluded : List Text → Text → Option Text

@@ -4,11 +4,12 @@ use Rattle.pg_stream.specs.declared.fault.StreamFault.{StreamFault}
 use Rattle.pg_stream.specs.declared.fault.StreamFault.TheVariants as stream
 use Rattle.pg_table.specs.declared.fault.TableFault.{TableFault}
 use Rattle.ruled_table.specs.declared.fault.ViewFault.{ViewFault}
-use Rattle.ruled_table.specs.declared.fault.ViewFault.TheVariants.{Column, Totals, Memory}
+use Rattle.ruled_table.specs.declared.fault.ViewFault.TheVariants.{Column, Sort, Totals, Memory}
 
 -- whether a fault says that memory was refused, and not that the options or the sizes are wrong
 abbrev pub is_memory : ViewFault → Bool
 is_memory (Column name) = false
+is_memory Sort = false
 is_memory Totals = false
 is_memory Memory = true
 

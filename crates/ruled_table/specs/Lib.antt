@@ -12,6 +12,7 @@ pub mod Look
 pub mod Named
 pub mod Numbers
 pub mod Omitted
+pub mod Order
 pub mod PairedRows
 pub mod Plans
 pub mod Ranges

@@ -19,9 +19,13 @@ use Rattle.ruled_table.specs.declared.options.Options.{Options}
 abbrev pub body_of : {X : Type 0} → Bool → List X → List X
 body_of has_header rows = if has_header then drop 1 rows else rows
 
--- a number, blank, `⋮`, or one of the texts that count as blank
+-- one of the texts that count as blank
+abbrev pub is_missing : Options → Text → Bool
+is_missing options text = list_any (λ word. bytes_eq text (string_bytes word)) options.missing.items
+
+-- a number, blank, `⋮`, or one of those
 abbrev pub is_numeric_text : Options → Text → Bool
-is_numeric_text options text = (is_blank text || is_number text) || (bytes_eq text gap || list_any (λ word. bytes_eq text (string_bytes word)) options.missing.items)
+is_numeric_text options text = (is_blank text || is_number text) || (bytes_eq text gap || is_missing options text)
 
 -- each text of the column is
 abbrev pub is_numeric : Options → List (List Text) → ℕ → Bool

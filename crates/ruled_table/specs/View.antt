@@ -2,9 +2,8 @@
 use Rattle.std.specs.Prelude.{Bool, List, ◌∷◌, ◌++◌, [], Option, None, if◌then◌else◌}
 use Rattle.std.specs.Option.{option_or}
 use Rattle.pg_layout.specs.Text.{Text}
-use Rattle.ruled_table.specs.Arranged.{arranged, chosen_rows, count_text}
+use Rattle.ruled_table.specs.Arranged.{chosen_fault, chosen_rows, count_text}
 use Rattle.ruled_table.specs.Blocks.{blocks_fault, blocks_text}
-use Rattle.ruled_table.specs.Columns.{column_fault}
 use Rattle.ruled_table.specs.Layouts.{first_fault, layout_fault, layout_of, whole_text}
 use Rattle.ruled_table.specs.Plans.{is_in_blocks}
 use Rattle.ruled_table.specs.declared.fault.ViewFault.{ViewFault}
@@ -47,6 +46,6 @@ all_fault options rows =
 abbrev pub table_text : Options → List (List Text) → Text
 table_text options rows = all_text options (chosen_rows options rows) ++ count_text options rows
 
--- why there is none: the names of columns, or the sizes
+-- why there is none: the words for columns, or the sizes
 abbrev pub table_fault : Options → List (List Text) → Option ViewFault
-table_fault options rows = option_or (column_fault options.columns.items (arranged options rows)) (all_fault options (chosen_rows options rows))
+table_fault options rows = option_or (chosen_fault options rows) (all_fault options (chosen_rows options rows))

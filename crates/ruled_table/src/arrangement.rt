@@ -1,11 +1,14 @@
 //! The rows of a table, of the rows that an input holds.
 
-ghost use Rattle.std.specs.Prelude.{◌≡◌, ◌≤◌, ◌∷◌, [], length, map, max, slice_index_or, string_bytes, IfOk};
+ghost use Rattle.std.specs.Prelude.{◌≡◌, ◌≤◌, ◌∷◌, [], length, map, max, slice_index_or, string_bytes, IfOk, IfSome, ◌<◌};
 ghost use Rattle.csv.specs.Records.{fields_of};
 ghost use Rattle.ruled_table.specs.Arranged as spec;
+ghost use Rattle.ruled_table.specs.Faults.{Tells};
 
-use crate::columns::field_at;
-use crate::options::Options;
+use crate::columns::{field_at, first_meant};
+use crate::fault::ViewFault;
+use crate::options::{Options, Sort};
+use crate::order::sorted;
 use csv::StringRecord;
 use std::alloc::{AllocError, Global};
 
@@ -175,15 +178,65 @@ fn numbered(
     Ok(rows)
 }
 
+// Rows above which names are, of one length.
+fn leveled(
+    alloc: Global,
+    options: &Options,
+    rows: Vec<StringRecord>,
+) -> Result<Vec<StringRecord>, AllocError>
+    ensures { IfOk result (λ leveled. map fields_of leveled.items ≡ spec.leveled options.now (map fields_of rows.items)) }
+{
+    let rows = named(alloc, &options.names, rows)?;
+    even(alloc, options, rows)
+}
+
+// The column that sorts rows, or the fault that row 0 has none. Where there are no rows, none does.
+fn sort_column(
+    alloc: Global,
+    sort: &Sort,
+    rows: &[StringRecord],
+) -> Result<Option<usize>, ViewFault>
+    ensures column { IfOk result (λ column. column ≡ spec.sort_column sort.now (map fields_of rows.now)) }
+    ensures some { IfOk result (λ column. IfSome column (λ _. 0 < length rows.now)) }
+    ensures fault { Tells (spec.missing_column sort.now (map fields_of rows.now)) result }
+{
+    match rows {
+        [] => Ok(None),
+        [header, ..] => match first_meant(alloc, header, sort.column.as_str())? {
+            Some(column) => Ok(Some(column)),
+            None => Err(ViewFault::Sort),
+        },
+    }
+}
+
+// Rows sorted by a column, if they are.
+fn sorted_by_word(
+    alloc: Global,
+    options: &Options,
+    rows: Vec<StringRecord>,
+) -> Result<Vec<StringRecord>, ViewFault>
+    ensures rows { IfOk result (λ sorted. map fields_of sorted.items ≡ spec.sorted_by_word options.now options.now.sort (map fields_of rows.items)) }
+    ensures fault { Tells (spec.sort_fault_by options.now.sort (map fields_of rows.items)) result }
+{
+    let Some(sort) = &options.sort else {
+        return Ok(rows);
+    };
+    match sort_column(alloc, sort, &rows)? {
+        Some(column) => Ok(sorted(alloc, options, sort.is_descending, column, rows)?),
+        None => Ok(rows),
+    }
+}
+
 /// The rows of a table, of the rows that an input holds.
 pub(crate) fn arranged(
     alloc: Global,
     options: &Options,
     rows: Vec<StringRecord>,
-) -> Result<Vec<StringRecord>, AllocError>
-    ensures { IfOk result (λ arranged. map fields_of arranged.items ≡ spec.arranged options.now (map fields_of rows.items)) }
+) -> Result<Vec<StringRecord>, ViewFault>
+    ensures rows { IfOk result (λ arranged. map fields_of arranged.items ≡ spec.arranged options.now (map fields_of rows.items)) }
+    ensures fault { Tells (spec.sort_fault options.now (map fields_of rows.items)) result }
 {
-    let rows = named(alloc, &options.names, rows)?;
-    let rows = even(alloc, options, rows)?;
-    numbered(alloc, options, rows)
+    let rows = leveled(alloc, options, rows)?;
+    let rows = sorted_by_word(alloc, options, rows)?;
+    Ok(numbered(alloc, options, rows)?)
 }

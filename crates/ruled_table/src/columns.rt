@@ -194,6 +194,19 @@ fn columns_of(
     }
 }
 
+/// The first column of those that a word means, if it means any.
+pub(crate) fn first_meant(
+    alloc: Global,
+    header: &StringRecord,
+    word: &str,
+) -> Result<Option<usize>, AllocError>
+    ensures { IfOk result (λ column. column ≡ spec.first_meant (fields_of header.now) word.now) }
+{
+    let first = first_columns(alloc, header)?;
+    let columns = columns_of(alloc, header, &first, word)?;
+    Ok(columns.first().copied())
+}
+
 // The word after a `!`, if it leaves columns out.
 fn excluded<'a>(
     header: &StringRecord,

@@ -15,6 +15,8 @@ pub enum ViewFault {
     /// Row 0 has no column for this word, of those that [`crate::Options::columns`] lists, counted from 0, or no column
     /// stays.
     Column(usize),
+    /// Row 0 has no column for the word of [`crate::Options::sort`].
+    Sort,
     /// The sizes of the table are too large.
     Totals,
     /// Out of memory.

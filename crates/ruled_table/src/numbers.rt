@@ -1,9 +1,12 @@
-//! What a number is.
+//! What a number is, and its parts.
 
-ghost use Rattle.std.specs.Prelude.{◌≡◌, ◌<◌, ◌==◌, ◌||◌, position, length, IfSome};
-ghost use Rattle.std.specs.List.{list_all};
+ghost use Rattle.std.specs.Prelude.{◌≡◌, ◌<◌, ◌<ℤ◌, ◌^◌, ◌==◌, ◌||◌, length, neg_ℤ, pos, position, IfOk, IfSome};
+ghost use Rattle.std.specs.List.{list_all, suffix_len};
 ghost use Rattle.std.specs.Io.BufRead.{strip_last};
 ghost use Rattle.ruled_table.specs.Numbers as spec;
+ghost use Rattle.ruled_table.specs.Order as order;
+
+use std::alloc::{AllocError, Global};
 
 // Digits and nothing else.
 fn has_digits_alone(text: &[u8]) -> bool
@@ -114,4 +117,104 @@ pub(crate) fn is_blank(text: &str) -> bool
     ensures { result ≡ spec.is_blank text.now }
 {
     text.as_bytes().iter().all(|byte| *byte == b' ')
+}
+
+/// Whether a text begins with a minus.
+pub(crate) fn is_negative(text: &[u8]) -> bool
+    ensures { result ≡ order.is_negative text.now }
+{
+    text.starts_with(b"-") || text.starts_with(&[0xe2, 0x88, 0x92])
+}
+
+// A number without its sign and its percent sign.
+fn bare(text: &[u8]) -> &[u8]
+    ensures { result.now ≡ order.bare text.now }
+{
+    without_percent(unsigned(text))
+}
+
+// What a number has before an `e`.
+fn mantissa_of(text: &[u8]) -> &[u8]
+    ensures { result.now ≡ order.mantissa text.now }
+{
+    let number = bare(text);
+    match mark_of(number) {
+        Some(mark) => &number[..mark],
+        None => number,
+    }
+}
+
+// The number that digits write, or the greatest one.
+fn size_of(digits: &[u8]) -> u64
+    ensures { result ≡ order.size_of digits.now }
+{
+    digits.iter().fold(0, |size: u64, digit| {
+        size.saturating_mul(10)
+            .saturating_add(u64::from(digit.saturating_sub(b'0')))
+    })
+}
+
+// A whole number with a sign.
+fn signed_size(text: &[u8]) -> i128
+    ensures value { result ≡ order.signed_size text.now }
+    ensures above { neg_ℤ (pos (2 ^ 64)) <ℤ result }
+    ensures below { result <ℤ pos (2 ^ 64) }
+{
+    let size = i128::from(size_of(unsigned(text)));
+    if is_negative(text) { -size } else { size }
+}
+
+// The power of ten behind an `e`.
+pub(crate) fn exponent(text: &[u8]) -> i128
+    ensures value { result ≡ order.exponent text.now }
+    ensures above { neg_ℤ (pos (2 ^ 64)) <ℤ result }
+    ensures below { result <ℤ pos (2 ^ 64) }
+{
+    let number = bare(text);
+    match mark_of(number) {
+        Some(mark) => signed_size(&number[mark + 1..]),
+        None => signed_size(&[]),
+    }
+}
+
+// How many digits are behind a point.
+fn fraction_len(text: &[u8]) -> usize
+    ensures { result ≡ order.behind_point (position (λ byte. byte == 46) text.now) text.now }
+{
+    match point_of(text) {
+        Some(point) => text.len() - (point + 1),
+        None => 0,
+    }
+}
+
+// How many digits of a number are behind a point, where a percent sign is for two more.
+pub(crate) fn scale(text: &[u8]) -> i128
+    ensures value { result ≡ pos (order.scale text.now) }
+    ensures below { result <ℤ pos (2 ^ 65) }
+{
+    let hundredths = if text.ends_with(b"%") { 2 } else { 0 };
+    fraction_len(mantissa_of(text)) as i128 + hundredths
+}
+
+// The digits of a text from the first one on that isn't 0.
+pub(crate) fn digits_of(alloc: Global, text: &[u8]) -> Result<Vec<u8>, AllocError>
+    ensures { IfOk result (λ digits. digits.items ≡ order.digits_of text.now) }
+{
+    mantissa_of(text)
+        .iter()
+        .copied()
+        .filter(|byte| byte.is_ascii_digit())
+        .skip_while(|byte| *byte == b'0')
+        .collect(alloc)
+}
+
+// How many zeros are at the end of digits.
+pub(crate) fn zeros_behind(digits: &[u8]) -> usize
+    ensures { result ≡ suffix_len order.is_zero digits.now }
+{
+    digits
+        .iter()
+        .rev()
+        .take_while(|byte| **byte == b'0')
+        .count()
 }

@@ -28,6 +28,15 @@ impl Vertical {
     }
 }
 
+/// A column by which rows are sorted.
+#[derive(Drop)]
+pub struct Sort {
+    /// A word for the column, as one of [`Options::columns`]. Of several columns that it means, the first one counts.
+    pub column: String,
+    /// Whether the greatest texts come first.
+    pub is_descending: bool,
+}
+
 /// How rows are shown.
 #[derive(Drop)]
 pub struct Options {
@@ -47,6 +56,10 @@ pub struct Options {
     /// Row 0, which is in front of all rows of the input, with an empty name for each further column of their first one.
     /// If no name is listed, row 0 is the first row of the input.
     pub names: Vec<String>,
+    /// The column by which rows below a header are sorted, if they are: by numbers if each of its texts is a number,
+    /// blank, `⋮` or one of `missing`, and those without a number come last; else by their bytes. Rows that tie stay
+    /// in their order. Rows are sorted before they are numbered, and before some of them are chosen.
+    pub sort: Option<Sort>,
     /// Whether each row has its number in a column in front, in which a header has `#`.
     pub is_numbered: bool,
     /// Whether row 0 gets an empty name for each further column of the longest row. Else the fields of a row

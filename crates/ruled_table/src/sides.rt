@@ -1,8 +1,7 @@
 //! The alignment of columns.
 
-ghost use Rattle.std.specs.Prelude.{◌≡◌, [], slice_index_or, string_bytes, OnOk};
-ghost use Rattle.std.specs.List.{list_all, list_any};
-ghost use Rattle.std.specs.Str.{bytes_eq};
+ghost use Rattle.std.specs.Prelude.{◌≡◌, [], slice_index_or, OnOk};
+ghost use Rattle.std.specs.List.{list_all};
 ghost use Rattle.csv.specs.Records.{fields_of};
 ghost use Rattle.pg_layout.specs.Records.{columns_of};
 ghost use Rattle.ruled_table.specs.LentRows.{fields_at, texts_of};
@@ -17,14 +16,21 @@ use pg_config::SpannedConfig;
 use pg_layout::{AlignmentHorizontal, Entity, Records};
 use std::alloc::AllocError;
 
-// Whether a text counts as blank, since it says so.
-fn is_missing(options: &Options, text: &str) -> bool
-    ensures { result ≡ list_any (λ word. bytes_eq text.now (string_bytes word)) options.now.missing.items }
+/// Whether a text counts as blank, since it is listed.
+pub(crate) fn is_missing(options: &Options, text: &str) -> bool
+    ensures { result ≡ spec.is_missing options.now text.now }
 {
     options.missing.iter().any(|word| text == word.as_str())
 }
 
-// Whether the text of a row in this column is a number, blank, `⋮`, or counts as blank.
+/// Whether a text is a number, blank, `⋮`, or counts as blank.
+pub(crate) fn is_numeric_text(options: &Options, text: &str) -> bool
+    ensures { result ≡ spec.is_numeric_text options.now text.now }
+{
+    is_blank(text) || is_number(text) || text == GAP || is_missing(options, text)
+}
+
+// Whether the text of a row in this column is one.
 fn has_number(
     options: &Options,
     fields: &StringRecord,
@@ -33,8 +39,7 @@ fn has_number(
 ) -> bool
     ensures { result ≡ spec.is_numeric_text options.now (slice_index_or (fields_at places.now (fields_of fields.now)) column []) }
 {
-    let text = text_in(fields, places, column);
-    is_blank(text) || is_number(text) || text == GAP || is_missing(options, text)
+    is_numeric_text(options, text_in(fields, places, column))
 }
 
 // Whether each row has a number in the column, or a text that counts as blank.

@@ -2,7 +2,6 @@
 
 ghost use Rattle.std.specs.Prelude.{◌≡◌, map, string_bytes, IfOk};
 ghost use Rattle.csv.specs.Records.{fields_of};
-ghost use Rattle.ruled_table.specs.Columns.{column_fault};
 ghost use Rattle.ruled_table.specs.Faults.{Tells};
 ghost use Rattle.ruled_table.specs.Arranged as spec;
 
@@ -56,7 +55,8 @@ fn count_text(
 
 /// The rows that are shown of these, of which the first is row 0.
 ///
-/// The fault is the word for a column that is wrong, whether rows are shown or not, or out of memory.
+/// The fault is the word for a column that is wrong, whether rows are shown or not, or out of memory: that of
+/// [`Options::sort`], or else one of [`Options::columns`].
 pub fn chosen_rows(
     alloc: Global,
     options: &Options,
@@ -64,7 +64,7 @@ pub fn chosen_rows(
 ) -> Result<Chosen, ViewFault>
     ensures rows { IfOk result (λ chosen. map fields_of chosen.rows.items ≡ spec.chosen_rows options.now (map fields_of rows.items)) }
     ensures count { IfOk result (λ chosen. string_bytes chosen.count ≡ spec.count_text options.now (map fields_of rows.items)) }
-    ensures fault { Tells (column_fault options.now.columns.items (spec.arranged options.now (map fields_of rows.items))) result }
+    ensures fault { Tells (spec.chosen_fault options.now (map fields_of rows.items)) result }
 {
     let rows = arranged(alloc, options, rows)?;
     let columns = places_of(alloc, &options.columns, &rows)?.len();
