@@ -203,7 +203,7 @@ const CHOICES: [Choice; 32] = [
         name: "sort",
         value: "COLUMN",
         takes: Takes::Text,
-        conflicts: &["stream"],
+        conflicts: &["no-header", "stream"],
         help: "Sort the rows below the header by this column, by numbers if all its texts are numbers; the greatest comes first if :desc is behind the column",
         ..FLAG
     },
