@@ -1,3 +1,4 @@
 -- Lemmas of this crate.
 pub mod CompactRows
 pub mod CompactPictures
+mod Rulesets

@@ -135,10 +135,12 @@ where
 
     ghost is_readable = { λ it. MayBeRead R.Records it };
 
+    #[tactic(auto, using(crate::proofs::Rulesets::fitting_tables))]
     fn fits(&self) -> Result<(), Misfit> {
         CompactGrid::fits(self)
     }
 
+    #[tactic(auto, using(crate::proofs::Rulesets::fitting_tables))]
     fn build<A: Allocator>(self, buf: &mut String<A>) -> Result<(), AllocError> {
         // Shows that the rows can be counted.
         let _rows = self.records.count_rows();

@@ -30,6 +30,7 @@ impl Model for ShortText {
 
 impl ShortText {
     /// The empty text.
+    #[tactic(auto, using(crate::proofs::Rulesets::short_texts))]
     pub(crate) fn new() -> ShortText
         ensures { result ≡ [] }
     {
@@ -41,6 +42,7 @@ impl ShortText {
 
     /// The text.
     #[inline(always)]
+    #[tactic(auto, using(crate::proofs::Rulesets::short_texts))]
     pub(crate) fn as_str(&self) -> &str
         ensures { result.now ≡ self.now }
     {

@@ -40,6 +40,7 @@ where
 {
     ghost unshown = { λ it. compact_unshown_of (compact_table R.texts R.columns D.width C.color it) };
 
+    #[tactic(auto, using(crate::proofs::Rulesets::fitting_tables))]
     fn shows_all(&self) -> Result<(), Unshown> {
         CompactGrid::shows_all(self)
     }

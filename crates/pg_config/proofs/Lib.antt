@@ -6,3 +6,4 @@ pub mod CoveredPlaces
 mod SpanCrossings
 pub mod SettingsLaw
 pub mod Computing
+mod Rulesets

@@ -81,6 +81,7 @@ impl<A: Allocator> Colors for EntityColors<A> {
     }
 
     /// Whether no colour was set.
+    #[tactic(auto, using(crate::proofs::Rulesets::unset))]
     fn is_empty(&self) -> bool {
         !self.colors.is_set()
     }

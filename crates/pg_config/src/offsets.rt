@@ -134,6 +134,7 @@ impl<V: Drop, A: Allocator> Offsets<V, A> {
 
 // Whether a glyph of this place has a value.
 #[inline(always)]
+#[tactic(auto, using(crate::proofs::Rulesets::first_keys))]
 fn has_place<V, A: Allocator>(glyphs: &Places<GlyphPlace, V, A>, pos: Position) -> bool
     ensures { result ≡ has_key (of_place pos) glyphs.now }
 {

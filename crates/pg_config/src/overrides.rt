@@ -202,6 +202,7 @@ fn has_glyph(columns: usize, line: HorizontalLine<char>) -> bool
 
 // Whether a place of this row has a value.
 #[inline(always)]
+#[tactic(auto, using(crate::proofs::Rulesets::first_keys))]
 fn has_row<G, A: Allocator>(places: &Places<Position, G, A>, row: usize) -> bool
     ensures { result ≡ has_key (in_row row) places.now }
 {
@@ -215,6 +216,7 @@ fn has_row<G, A: Allocator>(places: &Places<Position, G, A>, row: usize) -> bool
 
 // Whether a place of this column has a value.
 #[inline(always)]
+#[tactic(auto, using(crate::proofs::Rulesets::first_keys))]
 fn has_column<G, A: Allocator>(places: &Places<ColumnPlace, G, A>, col: usize) -> bool
     ensures { result ≡ has_key (in_column col) places.now }
 {

@@ -223,7 +223,7 @@ impl<A: Allocator> Spans<A> {
 
     /// Whether a rectangle that begins in the same row covers the place. Looks once into each column
     /// left of it in which one begins.
-    #[tactic(auto, unfolding(crate::specs::Spans::is_covered_by_column))]
+    #[tactic(auto, unfolding(crate::specs::Spans::is_covered_by_column), using(crate::proofs::Rulesets::covered))]
     pub(crate) fn is_covered_by_column(&self, pos: Position) -> bool
         ensures { result ≡ is_covered_by_column self.now pos }
     {
@@ -232,7 +232,7 @@ impl<A: Allocator> Spans<A> {
 
     /// Whether a rectangle that begins in the same column covers the place. Looks only at those that
     /// begin above it there.
-    #[tactic(auto, unfolding(crate::specs::Spans::is_covered_by_row))]
+    #[tactic(auto, unfolding(crate::specs::Spans::is_covered_by_row), using(crate::proofs::Rulesets::covered))]
     pub(crate) fn is_covered_by_row(&self, pos: Position) -> bool
         ensures { result ≡ is_covered_by_row self.now pos }
     {
@@ -240,7 +240,7 @@ impl<A: Allocator> Spans<A> {
     }
 
     /// Whether a rectangle that begins above and left of the place covers it. Looks at all of these.
-    #[tactic(auto, unfolding(crate::specs::Spans::is_covered_by_both))]
+    #[tactic(auto, unfolding(crate::specs::Spans::is_covered_by_both), using(crate::proofs::Rulesets::covered))]
     pub(crate) fn is_covered_by_both(&self, pos: Position) -> bool
         ensures { result ≡ is_covered_by_both self.now pos }
     {
@@ -266,6 +266,7 @@ impl<A: Allocator> Spans<A> {
         false
     }
 
+    #[tactic(auto, using(crate::proofs::Rulesets::covered))]
     fn is_covered_from(&self, pos: Position, column: usize, first: usize, last: usize) -> bool
         requires { first ≤ last }
         ensures { result ≡ is_covered_from self.now pos column first last }

@@ -4,7 +4,7 @@ use Rattle.std.specs.List.{position_or_len, slice_range, slice_split, onto_first
 use Rattle.std.specs.Str.{IsUtf8, IsCharBoundary, IsAscii, IsAsciiWhitespaceBelow, IsAsciiWhitespaceFrom, IsTrimAscii, encode_utf8_all, skip_leading_whitespace, drop_trailing_whitespace, trim, trim_start, trim_end}
 use Rattle.std.proofs.lemmas.Bool.Decides.{nat_tests}
 use Rattle.std.proofs.lemmas.List.{drop_at, take_all, drop-append-le, drop-take, take-append-le, take-take, drop_more, take_more, get_or_append_left, get_or_at}
-use Rattle.std.proofs.lemmas.List.Sums.{prefix_len-le-length, passes_at_first, sum_by-append}
+use Rattle.std.proofs.lemmas.List.Sums.{prefix_len-le-length, passes_at_first, sum_by-append, length-filter}
 use Rattle.std.proofs.lemmas.List.Splits.{slice_split_first, length-slice_split}
 use Rattle.std.proofs.lemmas.Str.{IsCharBoundary-after_ascii, chars-IsAscii, chars-nil, chars-append, encodes-chars, encodes-append, encode_ascii, IsUtf8-from_ascii, IsUtf8-take, IsUtf8-drop, IsCharBoundary-before_ascii}
 use Rattle.pg_layout.specs.Text.{Text, lines_of, first_line_of, first_of_lines, without_return, is_plain_byte, width_of, text_width_of, greatest}
@@ -15,6 +15,8 @@ use Rattle.pg_layout.specs.LineCursor.{ended, stands_in, StandsIn, line_number}
 use Rattle.std.proofs.lemmas.Str.Ascii.{IsAscii-cons}
 use Rattle.std.specs.Char.{is_whitespace, is_ascii_whitespace, is_ascii_graphic}
 use Rattle.std.proofs.lemmas.List.FromFn.{map-range_with_len_more}
+use Rattle.std.proofs.lemmas.Iterator.{YieldsList-from_slice}
+use Rattle.std.proofs.lemmas.Iterator.Consumers.{YieldsList-from_filter}
 
 -- ---- the lines of a text: where they are cut, how wide they are, and what is trimmed of them
 
@@ -476,3 +478,15 @@ greatest-more f n =
     let listed = ap greatest (map-range_with_len_more f 0 n n (omega arith)) in
     let parts = greatest-append (map f (range_with_len 0 n)) (f n ∷ []) in
     omega (arith, listed, parts)
+
+-- where a cursor stands, and at which line
+pub ruleset places_of_lines = (StandsIn-start, line_number-start, stands_in-start, stands_in-within, stands_in-end)
+
+-- how many lines a text has: one more than line feeds
+pub ruleset numbers_of_lines = (length-lines_of, length-filter, YieldsList-from_slice, YieldsList-from_filter)
+
+-- how wide plain lines are
+pub ruleset plain_widths = (width_of-plain, text_width_of-plain)
+
+-- lines without white space at their ends
+pub ruleset trimmed_lines = (trim-seen_ends)

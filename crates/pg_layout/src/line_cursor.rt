@@ -26,6 +26,7 @@ impl Model for LineCursor {
 
 impl LineCursor {
     /// A cursor at line 0 of every text.
+    #[tactic(auto, using(crate::proofs::TextLines::places_of_lines))]
     pub fn new() -> LineCursor
         ensures stands { (text : List ℕ) → StandsIn result text }
         ensures first { (text : List ℕ) → line_number result text ≡ 0 }
@@ -34,6 +35,7 @@ impl LineCursor {
     }
 
     /// Whether the cursor is where a line of the text begins, or past the text's last line.
+    #[tactic(auto, using(crate::proofs::TextLines::places_of_lines))]
     pub fn stands_in(&self, text: &str) -> bool
         ensures { result ≡ stands_in self.now text.now }
     {

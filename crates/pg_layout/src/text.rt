@@ -80,6 +80,7 @@ fn split_first_line(text: &str) -> (&str, Option<&str>)
 }
 
 /// How many lines a text has: one more than line feeds.
+#[tactic(auto, using(crate::proofs::TextLines::is_feed, crate::proofs::TextLines::numbers_of_lines, std::proofs::lemmas::Iterator::Consumers::count_from_yields_List))]
 pub fn count_lines(text: &str) -> usize
     ensures { result ≡ length (lines_of text.now) }
 {
@@ -143,6 +144,7 @@ fn are_plain_bytes(bytes: &[u8]) -> bool
 // Two blocks, which may overlap, hold a text of at most twice their length.
 // Both blocks are tested: a branch between them costs more than the second test.
 #[inline(always)]
+#[tactic(auto, using(crate::proofs::PlainBytes::all_by_ends, crate::proofs::PlainBytes::same_both))]
 fn has_plain_ends<const N: usize>(bytes: &[u8]) -> bool
     requires lanes { N ≤ 64 }
     requires one_block { N ≤ length bytes.now }
@@ -180,6 +182,7 @@ fn is_block_plain<const N: usize>(bytes: &[u8], from: usize) -> bool
 
 /// How many terminal columns a line takes, by Unicode's rules of widths.
 #[inline(always)]
+#[tactic(auto, unfolding(crate::specs::Text::width_of), using(crate::proofs::TextLines::plain_widths))]
 pub fn get_line_width(line: &str) -> usize
     ensures { result ≡ width_of line.now }
 {
@@ -210,6 +213,7 @@ fn has_seen_ends(bytes: &[u8]) -> bool
 
 /// A line without the (Unicode) white space at its start and at its end.
 #[inline(always)]
+#[tactic(auto, using(crate::proofs::TextLines::has_seen_ends, crate::proofs::TextLines::trimmed_lines))]
 pub fn trim_line(line: &str) -> &str
     ensures { result.now ≡ trim line.now }
 {
@@ -221,6 +225,7 @@ pub fn trim_line(line: &str) -> &str
 }
 
 /// Whether a line is empty or made of (Unicode) white space alone.
+#[tactic(auto, unfolding(crate::specs::Text::is_blank))]
 pub fn is_blank(line: &str) -> bool
     ensures { result ≡ is_blank line.now }
 {

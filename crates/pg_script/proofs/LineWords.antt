@@ -8,7 +8,7 @@ use Rattle.pg_script.specs.Words.{Word, is_space, words_of, behind_word, meant, 
 use Rattle.std.specs.Option.{option_map, option_and_then, SomeIff}
 use Rattle.std.specs.Char.{encode_utf8, IsScalar, digit_value}
 use Rattle.std.specs.Str.{IsUtf8, is_utf8, bytes_eq, chars}
-use Rattle.std.proofs.lemmas.Str.{IsUtf8-from_is_utf8, scalars-chars, encodes-chars, chars_past_char, chars-nil, chars-IsAscii}
+use Rattle.std.proofs.lemmas.Str.{IsUtf8-from_is_utf8, scalars-chars, encodes-chars, chars_past_char, chars-nil, chars-IsAscii, is_utf8-from_IsUtf8}
 use Rattle.pg_script.specs.Script.{Drafted, line_of_words, first_line, later_line, after_line}
 use Rattle.pg_script.specs.Statement.{size_said}
 use Rattle.pg_script.specs.Told.{Told, told_nothing}
@@ -458,3 +458,12 @@ even-not_ragged f n (x ∷ xs) even =
 pub no_error-is_ok : {X E : Type 0} (r : Result X E) → result_err r ≡ None → IsOk r
 no_error-is_ok (Ok x) none = refl
 no_error-is_ok {X} {E} (Err e) none = absurd (false≢true (ap (λ (o : Option E). is_some o) (sym none)))
+
+-- bytes that are a text, and others
+pub ruleset texts_of_lines = (is_utf8-from_IsUtf8, is_utf8-false)
+
+-- characters and numbers that words write
+pub ruleset words_read = (char_of-backslash, char_of-read, escaped_of-none, number_of-read)
+
+-- the rows of the cells' texts
+pub ruleset rows_of_texts = (map-set_in_row, map-steps, even-not_ragged, no_error-is_ok)

@@ -15,6 +15,7 @@ use crate::words::Words;
 use std::alloc::{AllocError, Allocator};
 
 // The line as a text, or `None` if it isn't UTF-8.
+#[tactic(auto, using(crate::proofs::LineWords::texts_of_lines))]
 fn text_of_line(line: &[u8]) -> Option<&str>
     ensures { MatchOption result (is_utf8 line.now ≡ false) (λ text. (is_utf8 line.now ≡ true) × (text.now ≡ line.now)) }
 {

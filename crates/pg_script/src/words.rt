@@ -105,6 +105,7 @@ impl<'a> Words<'a> {
 
 /// The number that a word writes in decimal digits, or `None` if it has other characters, too many
 /// digits or too great a value.
+#[tactic(auto, using(crate::proofs::LineWords::words_read))]
 pub(crate) fn number_of(word: &str) -> Option<usize>
     ensures { result ≡ number_of word.now }
 {
@@ -116,6 +117,7 @@ pub(crate) fn number_of(word: &str) -> Option<usize>
 
 /// The character that a word means: `\s` is a space, `\\` a backslash, any other character itself;
 /// `None` for other words.
+#[tactic(auto, using(crate::proofs::LineWords::words_read))]
 pub(crate) fn char_of(word: &str) -> Option<char>
     ensures { result ≡ char_of word.now }
 {
@@ -139,6 +141,7 @@ fn meant(c: char) -> Option<char>
 }
 
 // What the first character after a backslash means, and the text after it.
+#[tactic(auto, using(crate::proofs::LineWords::words_read))]
 fn escaped(text: &str) -> Option<(char, &str)>
     ensures read { option_map (λ read. (read.0, read.1.now)) result ≡ escaped_of text.now }
     ensures ascii { IfSome result (λ read. read.0 < 128) }

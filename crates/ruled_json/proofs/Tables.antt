@@ -5,7 +5,7 @@ use Rattle.std.specs.Str.{bytes_eq}
 use Rattle.std.proofs.lemmas.Bool.{and_parts, cases_Bool}
 use Rattle.std.proofs.lemmas.List.{append_assoc, append-nil, length-append, length-map, length-replicate, map-append, replicate-append-replicate, take_all, take_more, take-append-le}
 use Rattle.std.proofs.lemmas.List.Elements.{All-cons, All-head, All-nil, All-tail}
-use Rattle.std.proofs.lemmas.List.Folds.{list_all-append, list_any-append}
+use Rattle.std.proofs.lemmas.List.Folds.{list_all-append, list_any-append, list_all-map}
 use Rattle.std.proofs.lemmas.Slice.Eq.{bytes_eq-Decides}
 use Rattle.json.specs.Find.{get, get_member, later_or}
 use Rattle.json.specs.Json.{Json, null, boolean, number, string, array, object, Members, no_members, member}
@@ -407,3 +407,6 @@ no-table k =
       | inl known ↦ ap (λ (b : Bool). if b then streamed_table k [] else []) known ∙ none
       | inr left ↦ ap (λ (b : Bool). if b then streamed_table k [] else []) left
     ]
+
+-- a test of all names, and how many there are
+pub ruleset names_of_members = (list_all-map, length-map)

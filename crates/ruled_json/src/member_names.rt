@@ -110,6 +110,7 @@ impl MemberNames {
     }
 
     // Whether there is a column of this name.
+    #[tactic(auto, using(crate::proofs::Views::among))]
     fn has(&self, name: &str) -> bool
         ensures { result ≡ list_any (bytes_eq name.now) (map string_bytes self.now.names.keys) }
     {
@@ -140,6 +141,7 @@ impl MemberNames {
     }
 
     /// Whether each member of a record has a column.
+    #[tactic(auto, using(crate::proofs::Tables::names_of_members))]
     pub(crate) fn has_all(&self, value: &Value<'_>) -> bool
         ensures { result ≡ has_all (map string_bytes self.now.names.keys) (value_view value.now) }
     {
@@ -212,6 +214,7 @@ impl MemberNames {
     }
 
     // The row of a record of few columns.
+    #[tactic(auto, using(crate::proofs::Views::part_has_numbers, crate::proofs::Tables::whole_row))]
     fn narrow_row(&self, alloc: Global, value: &Value<'_>) -> Result<StringRecord, AllocError>
         requires numbers { HasNumbers (value_view value.now) }
         ensures { IfOk result (λ row. fields_of row ≡ row_of (map string_bytes self.now.names.keys) (value_view value.now)) }
@@ -249,6 +252,7 @@ impl MemberNames {
     }
 
     /// The row, with empty cells in the columns after its own.
+    #[tactic(auto, using(crate::proofs::Tables::names_of_members))]
     pub(crate) fn padded(&self, row: StringRecord) -> Result<StringRecord, AllocError>
         ensures { IfOk result (λ padded_row. fields_of padded_row ≡ padded (length (map string_bytes self.now.names.keys)) (fields_of row)) }
     {

@@ -20,6 +20,7 @@ use std::alloc::{AllocError, Global};
 use std::slice;
 
 /// The value that a text is, or what is wrong with the text.
+#[tactic(auto, using(crate::proofs::Views::not_utf8, crate::proofs::Views::not_json, crate::proofs::Views::is_json))]
 pub(crate) fn value_of<'a>(
     alloc: Global,
     scratch: &'a mut Scratch,

@@ -31,6 +31,7 @@ fn are_numbers(records: &[StringRecord], place: usize) -> bool
 }
 
 /// A field of a row, or an empty text where there is none.
+#[tactic(auto, using(crate::proofs::Filling::field_missing, crate::proofs::Filling::field_there))]
 pub(crate) fn field_at(fields: &StringRecord, place: usize) -> &str
     ensures { result.now ≡ slice_index_or (fields_of fields.now) place [] }
 {

@@ -7,3 +7,4 @@ pub mod PlainRecords
 pub mod SortedRows
 pub mod DigitsAlone
 pub mod WordsOfColumns
+mod Rulesets

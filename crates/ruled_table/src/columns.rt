@@ -27,6 +27,7 @@ pub(crate) fn told_of<T: Copy>(words: &[Option<T>], column: usize) -> Option<T>
 }
 
 /// A field of a row, or an empty text if there is none.
+#[tactic(auto, using(crate::proofs::Rulesets::fields_found))]
 pub fn field_at(fields: &StringRecord, place: usize) -> &str
     ensures { result.now ≡ slice_index_or (fields_of fields.now) place [] }
 {
@@ -67,6 +68,7 @@ fn column_of(header: &StringRecord, first: &HashMap<&str, usize>, name: &str) ->
 }
 
 // The number that digits write, or 0 if a word isn't digits.
+#[tactic(auto, using(crate::proofs::Rulesets::numbers_lost))]
 fn number_in(word: &str) -> usize
     ensures { result ≡ spec.number_in word.now }
 {

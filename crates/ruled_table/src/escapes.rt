@@ -33,6 +33,7 @@ fn has_plain_alone(text: &str) -> bool
 }
 
 /// Whether a text needs no escapes as one cell of a Markdown table.
+#[tactic(auto, using(crate::proofs::LentTexts::plain_texts_stay))]
 pub(crate) fn is_plain_text(text: &str) -> bool
     ensures { result ≡ true → escaped_text text.now ≡ text.now }
 {

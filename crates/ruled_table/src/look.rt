@@ -61,6 +61,7 @@ impl Look {
     }
 
     /// The look of this name, if there is one.
+    #[tactic(auto, using(crate::proofs::Tables::first_of_name))]
     pub fn by_name(name: &str) -> Option<Look>
         ensures named { IfSome result (λ look. spec.name_of look ≡ name.now) }
         ensures every { (look : Look) → spec.name_of look ≡ name.now → result ≡ Some look }

@@ -102,7 +102,7 @@ fn is_scaled(text: &[u8]) -> bool
 /// Whether a text is a number: perhaps a sign; a whole number, whose digits may have commas between
 /// them, or digits with a point before or among them; perhaps a power of ten; and perhaps a percent
 /// sign. Many numbers are digits alone, for which one walk is enough.
-#[tactic(auto, unfolding(crate::specs::Numbers::is_number))]
+#[tactic(auto, unfolding(crate::specs::Numbers::is_number), using(crate::proofs::Rulesets::digits))]
 pub(crate) fn is_number(text: &str) -> bool
     ensures { result ≡ spec.is_number text.now }
 {

@@ -31,6 +31,7 @@ fn is_seen(is_raw: bool, text: &str) -> bool
 }
 
 // A text with visible control characters, unless it is sent raw.
+#[tactic(auto, using(pg_fit::proofs::LawsOfControls::visible_texts_stay))]
 fn seen_text(alloc: Global, is_raw: bool, text: &str) -> Result<CowStr<'_>, AllocError>
     ensures { IfOk result (λ seen. cow_str_bytes seen ≡ seen_text is_raw text.now) }
 {

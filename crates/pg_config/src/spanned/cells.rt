@@ -255,6 +255,7 @@ impl<A: Allocator> SpannedConfig<A> {
 
     /// Whether each cell has the horizontal alignment of its column: none was set for a row or a cell
     /// alone.
+    #[tactic(auto, using(crate::proofs::Rulesets::sided))]
     pub fn has_sides_by_column(&self) -> bool
         ensures set { result ≡ is_by_column self.now.alignment_horizontal }
         ensures sided { IsTrue result → IsSidedByColumn self.now }
