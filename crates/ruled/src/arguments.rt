@@ -4,7 +4,7 @@ use crate::source::{copy_of, is_padded, name_in, selected, source_asked, unstrea
 use clap::error::ErrorKind;
 use clap::{Arg, ArgAction, ArgMatches, Command};
 use pg_layout::AlignmentHorizontal;
-use ruled_io::{Kind, OneLine, Request, Rows, Source};
+use ruled_io::{Encoding, Kind, OneLine, Request, Rows, Source};
 use ruled_table::{Bounds, Breaking, Look, Options, Overflow, Sort, Vertical};
 use std::alloc::{AllocError, Global};
 use std::env::VarError;
@@ -24,6 +24,8 @@ static SIDES: [&str; 5] = ["auto", "left", "right", "centre", "center"];
 pub(crate) struct Wanted {
     /// The file that is read, or `None` for standard input.
     pub(crate) file: Option<String>,
+    /// Its encoding, if one is asked for.
+    pub(crate) encoding: Option<Encoding>,
     pub(crate) request: Request,
 }
 
@@ -59,6 +61,8 @@ enum Takes {
     Rows,
     /// The name of a format.
     Format,
+    /// The name of an encoding.
+    Encoding,
     /// The name of a look.
     Look,
     /// The name of a side.
@@ -98,7 +102,7 @@ const FLAG: Choice = Choice {
 };
 
 /// All arguments, in the order of the help.
-const CHOICES: [Choice; 32] = [
+const CHOICES: [Choice; 33] = [
     Choice {
         name: "file",
         value: "FILE",
@@ -112,6 +116,13 @@ const CHOICES: [Choice; 32] = [
         value: "FORMAT",
         takes: Takes::Format,
         help: "Read the input in this format; without it the file's extension counts, else the first bytes",
+        ..FLAG
+    },
+    Choice {
+        name: "encoding",
+        value: "NAME",
+        takes: Takes::Encoding,
+        help: "Read text in this encoding; without it a byte order mark shows UTF-16, and all else is UTF-8",
         ..FLAG
     },
     Choice {
@@ -361,6 +372,7 @@ fn argument<'a>(alloc: Global, choice: &Choice, looks: &'a [&'a str]) -> Arg<'a>
             .default_missing_value("1000")
             .value_parser(clap::value_parser!(u32)),
         Takes::Format => option(alloc, choice).value_parser(Kind::NAMES.as_slice()),
+        Takes::Encoding => option(alloc, choice).value_parser(Encoding::NAMES.as_slice()),
         Takes::Look => option(alloc, choice)
             .value_parser(looks)
             .default_value("sharp"),
@@ -579,10 +591,12 @@ fn table_of(
     screen: Screen,
 ) -> Result<Wanted, AllocError> {
     let file = copy_of(alloc, name_in(found))?;
+    let encoding = found.get_str("encoding").and_then(Encoding::by_name);
     let mut view = view_of(alloc, found, look, screen)?;
     let source = selected(alloc, found, source, &mut view)?;
     Ok(Wanted {
         file,
+        encoding,
         request: Request {
             source,
             rows: rows_of(found),

@@ -12,7 +12,7 @@ use crate::arguments::{Asked, Wanted, read_arguments};
 use crate::compression::unpacker;
 use crate::logs::log_beside;
 use crate::waiting::Waiting;
-use ruled_io::{Known, Output, Pieces, Quoted, Request, Selection, Source, run};
+use ruled_io::{Decoded, Encoding, Known, Output, Pieces, Quoted, Request, Selection, Source, run};
 use std::fs::File;
 use std::io::{BufWriter, ErrorKind, Read, Write};
 use std::process::ExitCode;
@@ -52,10 +52,15 @@ fn open(rt: &HostRuntime, name: &str, request: &mut Request) -> io::Result<File>
     fs::open(rt, name)
 }
 
-// Shows the table of an input, and returns the exit status.
-fn show_input<R: Read + Drop>(rt: &HostRuntime, request: &Request, input: R) -> io::Result<u8> {
+// Shows the table of an input in this encoding, and returns the exit status.
+fn show_input<R: Read + Drop>(
+    rt: &HostRuntime,
+    request: &Request,
+    encoding: Option<Encoding>,
+    input: R,
+) -> io::Result<u8> {
     let mut out = Output::new(BufWriter::new(rt.alloc(), rt.stdout())?);
-    let mut input = Pieces::new(Waiting::new(*rt, input));
+    let mut input = Pieces::new(Decoded::new(Waiting::new(*rt, input), encoding));
     let status = run(rt.alloc(), request, &mut input, &mut out, &mut rt.stderr()).status();
     // What a write that failed has left isn't written once more.
     let _parts = out.into_writer().into_parts();
@@ -66,7 +71,7 @@ fn show_input<R: Read + Drop>(rt: &HostRuntime, request: &Request, input: R) -> 
 fn show(rt: &HostRuntime, wanted: Wanted) -> io::Result<u8> {
     let mut request = wanted.request;
     let Some(name) = &wanted.file else {
-        return show_input(rt, &request, rt.stdin());
+        return show_input(rt, &request, wanted.encoding, rt.stdin());
     };
     if let Some(unpacker) = unpacker(rt, name.as_str())? {
         let name = Quoted(name.as_str());
@@ -77,7 +82,7 @@ fn show(rt: &HostRuntime, wanted: Wanted) -> io::Result<u8> {
         return Ok(2);
     }
     match open(rt, name.as_str(), &mut request) {
-        Ok(file) => show_input(rt, &request, file),
+        Ok(file) => show_input(rt, &request, wanted.encoding, file),
         Err(error) if error.kind() == ErrorKind::OutOfMemory => Err(error),
         Err(error) => {
             let name = Quoted(name.as_str());

@@ -1,7 +1,9 @@
 //! Cases of a file.
 
 use crate::words::{push_bytes, push_input, set_bytes, set_option, split_times};
-use ruled_io::{Format, Log, Output, Pieces, Request, RowRules, Rows, Source, run};
+use ruled_io::{
+    Decoded, Encoding, Format, Log, Output, Pieces, Request, RowRules, Rows, Source, run,
+};
 use ruled_table::{Bounds, Breaking, Look, Options, Overflow, Vertical};
 use std::alloc::{AllocError, Global};
 use std::io;
@@ -11,6 +13,7 @@ pub(crate) struct Case {
     name: String,
     request: Request,
     rules: RowRules,
+    encoding: Option<Encoding>,
     // The input of the case above.
     above: Vec<u8>,
     input: Vec<u8>,
@@ -28,6 +31,7 @@ impl Drop for Case {
             name: _,
             request: _,
             rules: _,
+            encoding: _,
             above: _,
             input: _,
             shown: _,
@@ -73,6 +77,7 @@ impl Case {
                 view,
             },
             rules: RowRules::PLAIN,
+            encoding: None,
             above,
             input: Vec::new(alloc),
             shown: String::new(alloc),
@@ -87,6 +92,7 @@ impl Case {
             name: _,
             request: _,
             rules: _,
+            encoding: _,
             above: _,
             input,
             shown: _,
@@ -101,7 +107,13 @@ impl Case {
         let (mark, text) = line.split_once(' ').unwrap_or((line, ""));
         match mark {
             "" | "#" => Ok(true),
-            "@" => set_option(alloc, &mut self.request, &mut self.rules, text),
+            "@" => match text.strip_prefix("encoding ") {
+                Some(name) => {
+                    self.encoding = Encoding::by_name(name);
+                    Ok(self.encoding.is_some())
+                }
+                None => set_option(alloc, &mut self.request, &mut self.rules, text),
+            },
             ">" => {
                 push_input(&mut self.input, text)?;
                 Ok(true)
@@ -164,7 +176,7 @@ impl Case {
     /// Runs the case, and returns whether it ends as the file says. Other output is printed.
     pub(crate) fn is_as_told(&self, rt: &HostRuntime) -> io::Result<bool> {
         let (mut out, mut err) = (Output::new(Vec::new(rt.alloc())), Vec::new(rt.alloc()));
-        let mut input = Pieces::new(self.input.as_slice());
+        let mut input = Pieces::new(Decoded::new(self.input.as_slice(), self.encoding));
         let status = run(rt.alloc(), &self.request, &mut input, &mut out, &mut err).status();
         let out = out.into_writer();
         let is_right = status == self.status

@@ -23,10 +23,11 @@ use Rattle.ruled_table.specs.declared.options.Options.{Options}
 use Rattle.ruled_table.specs.declared.options.Vertical.{Vertical}
 use Rattle.ruled_table.specs.declared.options.Vertical.TheVariants.{Always, IfOmitting, Never}
 use Rattle.ruled_table.specs.declared.table_rows.TableRows.{TableRows}
-use Rattle.ruled_io.specs.Faults.{is_early, is_of_write, is_read, of_view}
+use Rattle.ruled_io.specs.Faults.{is_early, is_of_write, is_read, of_view, read_part}
 use Rattle.ruled_io.specs.Reading.{ReportsRead}
 use Rattle.ruled_io.specs.Steps.{Draws, DrawsInMemory, EndsBelow, Nears, WritesRows}
 use Rattle.ruled_io.specs.Output.{Begins}
+use Rattle.ruled_io.specs.declared.fault.ReadFault.{ReadFault}
 use Rattle.ruled_io.specs.declared.fault.RunFault.{RunFault}
 use Rattle.ruled_io.specs.declared.fault.RunFault.TheVariants.{Input, Read, Closed, Write}
 use Rattle.ruled_table.proofs.Tables.{chosen-named as tables-named}
@@ -43,7 +44,7 @@ use Rattle.ruled_io.specs.declared.request.Rows.TheVariants.{AtOnce, FromFirst}
 
 pub of-write : (fault : RunFault) → is_of_write fault ≡ true → (is_read fault ≡ false) × (is_early fault ≡ false)
 of-write (Input fault) failed = absurd (false≢true failed)
-of-write Read failed = absurd (false≢true failed)
+of-write (Read fault) failed = absurd (false≢true failed)
 of-write Closed failed = (refl, refl)
 of-write Write failed = (refl, refl)
 
@@ -51,7 +52,7 @@ of-write Write failed = (refl, refl)
 pub draws-so : {X : Type 0} (text : Text) (wrong : Option ViewFault) (old new : Option (List ℕ)) (result : Result X RunFault) → DrawsInMemory text wrong old new result → Draws text wrong old new result
 draws-so text wrong old new (Ok x) drawn = drawn
 draws-so text wrong old new (Err (Input fault)) (read, early, begun) = (λ soft. absurd (true≢false (sym (ap not soft) ∙ early)), λ lost. begun)
-draws-so text wrong old new (Err Read) (read, early, begun) = absurd (true≢false read)
+draws-so text wrong old new (Err (Read fault)) (read, early, begun) = absurd (true≢false read)
 draws-so text wrong old new (Err Closed) (read, early, begun) = begun
 draws-so text wrong old new (Err Write) (read, early, begun) = begun
 
@@ -61,28 +62,28 @@ writes-only (Ok x) failed = tt
 writes-only (Err fault) failed = (of-write fault (failed fault refl)).0
 
 -- where no read failed, none is reported
-pub no-read : {X : Type 0} (failed : Bool) (result : Result X RunFault) → IfErr result (λ fault. is_read fault ≡ false) → ReportsRead failed result
+pub no-read : {X : Type 0} (failed : Option ReadFault) (result : Result X RunFault) → IfErr result (λ fault. is_read fault ≡ false) → ReportsRead failed result
 no-read failed (Ok x) unread = tt
 no-read failed (Err fault) unread = λ read. absurd (true≢false (sym read ∙ unread))
 
 -- a fault that is handed on reports what it did
-pub read-handed : {X : Type 0} (failed : Bool) (found : RunFault) (result : Result X RunFault) → IsErrAnd result (λ fault. fault ≡ found) → (is_read found ≡ true → failed ≡ true) → ReportsRead failed result
+pub read-handed : {X : Type 0} (failed : Option ReadFault) (found : RunFault) (result : Result X RunFault) → IsErrAnd result (λ fault. fault ≡ found) → (is_read found ≡ true → failed ≡ read_part found) → ReportsRead failed result
 read-handed failed found (Ok x) is noted = absurd is
-read-handed failed found (Err fault) is noted = λ read. noted (sym (ap is_read is) ∙ read)
+read-handed failed found (Err fault) is noted = λ read. noted (sym (ap is_read is) ∙ read) ∙ sym (ap read_part is)
 
-pub write-handed : {X : Type 0} (failed : Bool) (found : RunFault) (result : Result X RunFault) → is_of_write found ≡ true → IsErrAnd result (λ fault. fault ≡ found) → ReportsRead failed result
+pub write-handed : {X : Type 0} (failed : Option ReadFault) (found : RunFault) (result : Result X RunFault) → is_of_write found ≡ true → IsErrAnd result (λ fault. fault ≡ found) → ReportsRead failed result
 write-handed failed found result writes is = read-handed failed found result is (λ read. absurd (true≢false (sym read ∙ (of-write found writes).0)))
 
-pub draws-unread : (failed : Bool) (text : Text) (wrong : Option ViewFault) (old new : Option (List ℕ)) (found : RunFault) → Draws text wrong old new {X = Unit {0}} (Err found) → is_read found ≡ true → failed ≡ true
+pub draws-unread : (failed : Option ReadFault) (text : Text) (wrong : Option ViewFault) (old new : Option (List ℕ)) (found : RunFault) → Draws text wrong old new {X = Unit {0}} (Err found) → is_read found ≡ true → failed ≡ read_part found
 draws-unread failed text wrong old new (Input fault) draws read = absurd (false≢true read)
-draws-unread failed text wrong old new Read draws read = absurd draws
+draws-unread failed text wrong old new (Read fault) draws read = absurd draws
 draws-unread failed text wrong old new Closed draws read = absurd (false≢true read)
 draws-unread failed text wrong old new Write draws read = absurd (false≢true read)
 
 -- what a result says of a read, its fault does
-pub read-noted : {X : Type 0} (failed : Bool) (result : Result X RunFault) → ReportsRead failed result → result_err result ≡ Some Read → failed ≡ true
-read-noted failed (Ok x) noted is = cc
-read-noted failed (Err fault) noted is = noted (let same : fault ≡ Read = cc in ap is_read same)
+pub read-noted : {X : Type 0} (failed : Option ReadFault) (result : Result X RunFault) → ReportsRead failed result → IfSome (result_err result) (λ fault. is_read fault ≡ true → failed ≡ read_part fault)
+read-noted failed (Ok x) noted = tt
+read-noted failed (Err fault) noted = noted
 
 -- a text is written
 pub written-draws : {X : Type 0} (text bytes : Text) (wrong : Option ViewFault) (old new : Option (List ℕ)) (result : Result X RunFault) → bytes ≡ text → wrong ≡ None → OnOk result (Appends old new bytes) → OnErr result (Begins old new bytes)
@@ -217,7 +218,7 @@ whole-draws options plan rows wrong old new result laid none draws =
 -- where a text ends before its end, so does a longer one
 draws-longer : (text more : Text) (wrong : Option ViewFault) (old new : Option (List ℕ)) (fault : RunFault) → Draws text wrong old new {X = Unit {0}} (Err fault) → Draws (text ++ more) wrong old new {X = Unit {0}} (Err fault)
 draws-longer text more wrong old new (Input fault) (soft, lost) = (soft, λ memory. begins-longer old new text more (lost memory))
-draws-longer text more wrong old new Read drawn = drawn
+draws-longer text more wrong old new (Read fault) drawn = drawn
 draws-longer text more wrong old new Closed begun = begins-longer old new text more begun
 draws-longer text more wrong old new Write begun = begins-longer old new text more begun
 

@@ -19,7 +19,7 @@ use Rattle.ruled_database.specs.declared.fault.TableFault.TheVariants as table
 use Rattle.ruled_table.specs.View.{table_fault, table_text}
 use Rattle.ruled_table.specs.declared.fault.ViewFault.{ViewFault}
 use Rattle.ruled_io.specs.Databases.{LacksAnswer, LacksAnswerOf, LacksQueried, LacksSelected, LacksStored, LacksTableOf, table_of}
-use Rattle.ruled_io.specs.Faults.{IsOfRead, Tells, but_line_in, fault_of_database, fault_of_json, fault_of_rows, fault_of_sql, is_early, is_memory, is_of_write}
+use Rattle.ruled_io.specs.Faults.{IsOfRead, Tells, but_line_in, fault_of_database, fault_of_json, fault_of_rows, fault_of_sql, is_early, is_memory, is_of_write, is_read}
 use Rattle.ruled_io.specs.Formats.{content_of, format_in}
 use Rattle.ruled_io.specs.Input.{format_fault, input_fault, rows_in}
 use Rattle.ruled_io.specs.Output.{failure_in, fault_written, write_part, Begins}
@@ -29,6 +29,7 @@ use Rattle.ruled_io.specs.Steps.{Draws}
 use Rattle.ruled_io.specs.declared.fault.InputFault.{InputFault}
 use Rattle.ruled_io.specs.declared.fault.InputFault.TheVariants as input
 use Rattle.ruled_io.specs.declared.fault.InputFault.TheVariants.{Memory}
+use Rattle.ruled_io.specs.declared.fault.ReadFault.{ReadFault}
 use Rattle.ruled_io.specs.declared.fault.RunFault.{RunFault}
 use Rattle.ruled_io.specs.declared.fault.RunFault.TheVariants.{Input, Read, Closed, Write}
 use Rattle.ruled_io.specs.declared.formats.Known.{Known}
@@ -221,19 +222,26 @@ each-err (Err fault) p = p fault refl
 
 -- ---- an input
 
+-- a fault of a read
+pub of-read : (fault : RunFault) → is_read fault ≡ true → (cause : ReadFault) × (fault ≡ Read cause)
+of-read (Input fault) read = absurd (false≢true read)
+of-read (Read cause) read = (cause, refl)
+of-read Closed read = absurd (false≢true read)
+of-read Write read = absurd (false≢true read)
+
 memory-lacks : (limit : Option ℕ) (holds : Bool) (source : Source) (bytes : List ℕ) → LacksRowsAs limit holds source bytes Memory
 memory-lacks limit true source bytes = tt
 memory-lacks limit false source bytes = λ counts. absurd (true≢false counts)
 
 pub read-lacks : (limit : Option ℕ) (source : Source) (bytes : List ℕ) (found : RunFault) → IsOfRead found → LacksInput limit source bytes found
 read-lacks limit source bytes found (inl memory) = subst (LacksInput limit source bytes) (sym memory) (memory-lacks limit (holds_database source bytes) source bytes)
-read-lacks limit source bytes found (inr read) = subst (LacksInput limit source bytes) (sym read) tt
+read-lacks limit source bytes found (inr read) = let (cause, is) = of-read found read in subst (LacksInput limit source bytes) (sym is) tt
 
 -- ---- a run at once
 
 pub lacks-caused : (request : Request) (bytes : List ℕ) (old : Option (List ℕ)) (fault : RunFault) → LacksInput (rows_needed request.view) request.source bytes fault → CausedAtOnce request bytes fault old old
 lacks-caused request bytes old (Input fault) lacks = (λ soft. (inl lacks, Keeps-refl old), λ memory. inl (Keeps-refl old))
-lacks-caused request bytes old Read lacks = Keeps-refl old
+lacks-caused request bytes old (Read fault) lacks = Keeps-refl old
 lacks-caused request bytes old Closed lacks = absurd lacks
 lacks-caused request bytes old Write lacks = absurd lacks
 
@@ -241,14 +249,14 @@ module _ (request : Request) (bytes : List ℕ) (rows : List (List Text)) (are :
   -- their table isn't written
   pub draws-caused : (old new : Option (List ℕ)) (fault : RunFault) → Draws (table_text request.view rows) (table_fault request.view rows) old new {X = Unit {0}} (Err fault) → CausedAtOnce request bytes fault old new
   draws-caused old new (Input fault) (soft, memory) = (λ found. (inr (rows, are, (soft found).0), (soft found).1), λ lost. inr (rows, are, memory lost))
-  draws-caused old new Read draws = absurd draws
+  draws-caused old new (Read fault) draws = absurd draws
   draws-caused old new Closed draws = (rows, are, draws)
   draws-caused old new Write draws = (rows, are, draws)
 
   -- it is written, but not shown
   pub unshown-caused : (old mid new : Option (List ℕ)) (fault : RunFault) → is_of_write fault ≡ true → Appends old mid (table_text request.view rows) → Keeps mid new → CausedAtOnce request bytes fault old new
   unshown-caused old mid new (Input fault) failed wrote kept = absurd (false≢true failed)
-  unshown-caused old mid new Read failed wrote kept = absurd (false≢true failed)
+  unshown-caused old mid new (Read fault) failed wrote kept = absurd (false≢true failed)
   unshown-caused old mid new Closed failed wrote kept = (rows, are, begins-kept old mid new _ (begins-all old mid _ wrote) kept)
   unshown-caused old mid new Write failed wrote kept = (rows, are, begins-kept old mid new _ (begins-all old mid _ wrote) kept)
 
@@ -262,14 +270,14 @@ not-true false is = refl
 
 of-write-late : (fault : RunFault) → is_of_write fault ≡ true → is_early fault ≡ false
 of-write-late (Input fault) failed = absurd (false≢true failed)
-of-write-late Read failed = absurd (false≢true failed)
+of-write-late (Read fault) failed = absurd (false≢true failed)
 of-write-late Closed failed = refl
 of-write-late Write failed = refl
 
 -- a fault that is found first is told before anything is written
 pub draws-early : (text : Text) (wrong : Option ViewFault) (old new : Option (List ℕ)) (fault : RunFault) → Draws text wrong old new {X = Unit {0}} (Err fault) → is_early fault ≡ true → Keeps old new
 draws-early text wrong old new (Input fault) (soft, memory) early = (soft (not-true (is_memory fault) early)).1
-draws-early text wrong old new Read draws early = absurd draws
+draws-early text wrong old new (Read fault) draws early = absurd draws
 draws-early text wrong old new Closed draws early = absurd (false≢true early)
 draws-early text wrong old new Write draws early = absurd (false≢true early)
 
@@ -295,7 +303,7 @@ written-err (Err fault) = refl
 -- what has nothing of a write
 pub read-part : (fault : RunFault) → IsOfRead fault → write_part fault ≡ None
 read-part fault (inl memory) = ap write_part memory
-read-part fault (inr read) = ap write_part read
+read-part fault (inr read) = ap write_part (of-read fault read).1
 
 pub handed-part : {X : Type 0} (found : RunFault) (result : Result X RunFault) → write_part found ≡ None → IsErrAnd result (λ fault. fault ≡ found) → IfErr result (λ fault. write_part fault ≡ None)
 handed-part found (Ok x) none is = absurd is

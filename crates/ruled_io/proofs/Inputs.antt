@@ -26,6 +26,7 @@ use Rattle.ruled_io.specs.declared.reader.Reading.{Reading}
 use Rattle.ruled_io.specs.declared.request.Request.{Request}
 use Rattle.ruled_io.specs.declared.request.Source.{Source}
 use Rattle.ruled_io.specs.declared.request.Source.TheVariants as source
+use Rattle.ruled_io.proofs.Causes.{of-read}
 use Rattle.ruled_io.proofs.Shows.{above-none, wrong-ends, first-rows, open-rows, short-rows}
 use Rattle.ruled_csv.specs.declared.dialect.Dialect.{Dialect}
 use Rattle.ruled_io.specs.Faults.{IsOfRead, but_line_in, fault_of_rows, is_memory}
@@ -172,7 +173,7 @@ module _ (format : Format) (limit : ℕ) (all : List ℕ) (left : Option (List �
 
 pub read-first : (format : Format) (limit : ℕ) (all : List ℕ) (found : RunFault) → IsOfRead found → LacksFirst format limit all found
 read-first format limit all found (inl memory) = subst (LacksFirst format limit all) (sym memory) (λ soft. absurd (true≢false soft))
-read-first format limit all found (inr read) = subst (LacksFirst format limit all) (sym read) tt
+read-first format limit all found (inr read) = let (cause, is) = of-read found read in subst (LacksFirst format limit all) (sym is) tt
 
 -- ---- the format of an input by its first bytes
 
@@ -263,7 +264,7 @@ module _ (origin : Source) (limit : ℕ) (bytes : List ℕ) where
 
   pub needed-lacks : (needed : Option ℕ) (fault : RunFault) → LacksInput (Some (unwrap_or needed limit)) origin bytes fault → LacksInput needed origin bytes fault
   needed-lacks needed (Input fault) lacks = needed-lack needed (holds_database origin bytes) fault lacks
-  needed-lacks needed Read lacks = lacks
+  needed-lacks needed (Read fault) lacks = lacks
   needed-lacks needed Closed lacks = lacks
   needed-lacks needed Write lacks = lacks
 
@@ -294,7 +295,7 @@ module _ (origin : Source) (limit : ℕ) (front : List ℕ) where
 
   lacks-whole : (all : List ℕ) (fault : RunFault) → (holds_database origin all ≡ false → is_separated (format_in (format_told origin) all) ≡ false) → LacksInput None origin all fault → LacksInput (Some limit) origin all fault
   lacks-whole all (Input fault) other lacks = other-lacks origin limit all (holds_database origin all) fault other lacks
-  lacks-whole all Read other lacks = lacks
+  lacks-whole all (Read fault) other lacks = lacks
   lacks-whole all Closed other lacks = lacks
   lacks-whole all Write other lacks = lacks
 
@@ -326,7 +327,7 @@ module _ (origin : Source) (limit : ℕ) (front : List ℕ) where
     heads-lack : (all content : List ℕ) (fault : RunFault) → format_in (format_told origin) all ≡ Separated dialect → content_of (Separated dialect) all ≡ content → holds_database origin all ≡ false → LacksFirst (Separated dialect) limit content fault
         → LacksInput (Some limit) origin all fault
     heads-lack all content (Input fault) format content-same holds lacks = subst (λ (h : Bool). LacksRowsAs (Some limit) h origin all fault) (sym holds) (λ soft. rw (format, content-same) (lacks soft))
-    heads-lack all content Read format content-same holds lacks = lacks
+    heads-lack all content (Read fault) format content-same holds lacks = lacks
     heads-lack all content Closed format content-same holds lacks = lacks
     heads-lack all content Write format content-same holds lacks = lacks
 

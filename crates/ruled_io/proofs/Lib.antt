@@ -1,6 +1,8 @@
 mod AtOnce
 mod BothWays
 mod Causes
+mod Decodings
+mod Encodings
 mod Written
 mod Fronts
 mod Inputs
@@ -8,3 +10,4 @@ mod Readers
 mod SameLines
 mod Shows
 mod Tables
+mod Windows

@@ -28,6 +28,7 @@ use Rattle.ruled_io.specs.declared.reader.Reader.{Reader}
 use Rattle.ruled_io.specs.declared.reader.Reading.{Reading}
 use Rattle.ruled_io.specs.declared.reader.Reading.TheVariants.{More, Done}
 use Rattle.ruled_io.proofs.Written.{begun-on, begun-whole, grows-kept, grows-more, grows-nears, grows-none, nears-more, nears-none, nears-on}
+use Rattle.ruled_io.proofs.Causes.{of-read}
 use Rattle.ruled_io.proofs.Readers.{stands-begin}
 
 -- ---- faults
@@ -39,13 +40,13 @@ handed P found (Err fault) is p = subst P (sym is) p
 
 pub write-fails : (fault : RunFault) → is_of_write fault ≡ true → is_failure fault ≡ true
 write-fails (Input fault) e = cc
-write-fails Read e = refl
+write-fails (Read fault) e = refl
 write-fails Closed e = refl
 write-fails Write e = refl
 
 pub read-fails : (fault : RunFault) → IsOfRead fault → is_failure fault ≡ true
 read-fails fault (inl memory) = ap is_failure memory
-read-fails fault (inr read) = ap is_failure read
+read-fails fault (inr read) = ap is_failure (of-read fault read).1
 
 -- ---- items of a list
 

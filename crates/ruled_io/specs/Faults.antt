@@ -16,6 +16,8 @@ use Rattle.ruled_table.specs.declared.fault.ViewFault.{ViewFault}
 use Rattle.ruled_table.specs.declared.fault.ViewFault.TheVariants as view
 use Rattle.ruled_io.specs.declared.fault.InputFault.{InputFault}
 use Rattle.ruled_io.specs.declared.fault.InputFault.TheVariants.{Rows, Json, Sql, Database, Log, Stream, Column, Sort, Totals, Memory}
+use Rattle.ruled_io.specs.declared.fault.ReadFault.{ReadFault}
+use Rattle.ruled_io.specs.declared.fault.ReadFault.TheVariants as read
 use Rattle.ruled_io.specs.declared.fault.RunFault.{RunFault}
 use Rattle.ruled_io.specs.declared.fault.RunFault.TheVariants.{Input, Read, Closed, Write}
 use Rattle.ruled_io.specs.declared.output.WriteFault.{WriteFault}
@@ -38,7 +40,8 @@ status_of_input Memory = 4
 -- 0 where nobody reads what is written
 abbrev pub status_of : RunFault → ℕ
 status_of (Input fault) = status_of_input fault
-status_of Read = 5
+status_of (Read read.Encoding) = 2
+status_of (Read read.Failed) = 5
 status_of Closed = 0
 status_of Write = 5
 
@@ -65,34 +68,41 @@ is_memory Memory = true
 -- whether memory, a read or a write failed
 abbrev pub is_failure : RunFault → Bool
 is_failure (Input fault) = is_memory fault
-is_failure Read = true
+is_failure (Read fault) = true
 is_failure Closed = true
 is_failure Write = true
 
 -- whether a write failed
 abbrev pub is_of_write : RunFault → Bool
 is_of_write (Input fault) = false
-is_of_write Read = false
+is_of_write (Read fault) = false
 is_of_write Closed = true
 is_of_write Write = true
 
 -- whether a read failed
 abbrev pub is_read : RunFault → Bool
 is_read (Input fault) = false
-is_read Read = true
+is_read (Read fault) = true
 is_read Closed = false
 is_read Write = false
+
+-- why it failed
+abbrev pub read_part : RunFault → Option ReadFault
+read_part (Input fault) = None
+read_part (Read fault) = Some fault
+read_part Closed = None
+read_part Write = None
 
 -- whether a fault is found before anything is written, where all rows are shown at once: those of the input, and of what is asked of it
 abbrev pub is_early : RunFault → Bool
 is_early (Input fault) = not (is_memory fault)
-is_early Read = true
+is_early (Read fault) = true
 is_early Closed = false
 is_early Write = false
 
 -- memory or a read failed
 abbrev pub IsOfRead : RunFault → Type 0
-IsOfRead fault = (fault ≡ Input Memory) ⊎ (fault ≡ Read)
+IsOfRead fault = (fault ≡ Input Memory) ⊎ (is_read fault ≡ true)
 
 -- ---- what they tell
 
@@ -111,7 +121,7 @@ but_line_in Memory = Memory
 
 abbrev pub but_line : RunFault → RunFault
 but_line (Input fault) = Input (but_line_in fault)
-but_line Read = Read
+but_line (Read fault) = Read fault
 but_line Closed = Closed
 but_line Write = Write
 

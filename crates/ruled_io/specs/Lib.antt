@@ -1,4 +1,6 @@
 pub mod Databases
+pub mod Decodings
+pub mod Encodings
 pub mod Faults
 pub mod Formats
 pub mod Input
@@ -10,4 +12,5 @@ pub mod Requests
 pub mod Runs
 pub mod Steps
 pub mod Stream
+pub mod Windows
 pub mod Words

@@ -17,7 +17,7 @@ failure_of out = option_map fault_of_write out.failure
 -- the part of a fault that a write has
 abbrev pub write_part : RunFault → Option RunFault
 write_part (Input fault) = None
-write_part Read = None
+write_part (Read fault) = None
 write_part Closed = Some Closed
 write_part Write = Some Write
 

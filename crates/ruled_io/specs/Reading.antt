@@ -1,5 +1,5 @@
 -- The rows of an input whose bytes come one piece after another.
-use Rattle.std.specs.Prelude.{◌≡◌, ◌≤◌, ℕ, Bool, false, true, ⊤, List, [], ◌++◌, length, IfErr, Option, Some, Result, is_some, option_map}
+use Rattle.std.specs.Prelude.{◌≡◌, ◌≤◌, ℕ, false, true, ⊤, List, [], ◌++◌, length, IfErr, Option, Some, Result, is_some, option_map}
 use Rattle.csv.specs.Reading.{strip_bom}
 use Rattle.pg_layout.specs.Text.{Text}
 use Rattle.ruled_csv.specs.Faults as csv_faults
@@ -8,11 +8,12 @@ use Rattle.ruled_csv.specs.Rows as csv_rows
 use Rattle.ruled_csv.specs.declared.dialect.Dialect.{Dialect}
 use Rattle.ruled_json.specs.Reading as json_reading
 use Rattle.ruled_json.specs.Streamed as json_streamed
-use Rattle.ruled_io.specs.Faults.{but_line_in, fault_of_json, fault_of_rows, is_read}
+use Rattle.ruled_io.specs.Faults.{but_line_in, fault_of_json, fault_of_rows, is_read, read_part}
 use Rattle.ruled_io.specs.Formats.{content_of, format_shown, is_database, setting_of}
 use Rattle.ruled_io.specs.Requests.{format_told, holds_database}
 use Rattle.ruled_io.specs.declared.fault.InputFault.{InputFault}
 use Rattle.ruled_io.specs.declared.fault.InputFault.TheVariants.{Stream}
+use Rattle.ruled_io.specs.declared.fault.ReadFault.{ReadFault}
 use Rattle.ruled_io.specs.declared.fault.RunFault.{RunFault}
 use Rattle.ruled_io.specs.declared.fault.StreamedFault.TheVariants.{Value}
 use Rattle.ruled_io.specs.declared.formats.Format.{Format}
@@ -31,13 +32,13 @@ use Rattle.ruled_io.specs.declared.reader.Reading.TheVariants.{More, Done}
 abbrev pub left_in : {R : Type 0} → (R → Option (List ℕ)) → Pieces R → Option (List ℕ)
 left_in remaining pieces = remaining pieces.input
 
--- whether a read has failed
-abbrev pub has_failed : {R : Type 0} → Pieces R → Bool
-has_failed pieces = pieces.has_failed
+-- why a read has failed, where one has
+abbrev pub read_failure : {R : Type 0} → Pieces R → Option ReadFault
+read_failure pieces = pieces.failure
 
--- a result reports a failed read only where one has failed
-abbrev pub ReportsRead : {X : Type 0} → Bool → Result X RunFault → Type 0
-ReportsRead failed result = IfErr result (λ fault. is_read fault ≡ true → failed ≡ true)
+-- a result reports a failed read only where one has failed so
+abbrev pub ReportsRead : {X : Type 0} → Option ReadFault → Result X RunFault → Type 0
+ReportsRead failure result = IfErr result (λ fault. is_read fault ≡ true → failure ≡ read_part fault)
 
 -- ---- a whole input
 

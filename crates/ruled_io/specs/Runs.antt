@@ -52,7 +52,7 @@ LacksRows limit source bytes fault = LacksRowsAs limit (holds_database source by
 -- or the input can't be read
 abbrev pub LacksInput : Option ℕ → Source → List ℕ → RunFault → Type 0
 LacksInput limit source bytes (Input fault) = LacksRows limit source bytes fault
-LacksInput limit source bytes Read = ⊤
+LacksInput limit source bytes (Read fault) = ⊤
 LacksInput limit source bytes Closed = ⊥
 LacksInput limit source bytes Write = ⊥
 
@@ -85,7 +85,7 @@ IsBegun request bytes old new = (rows : List (List Text)) × AreRows (rows_neede
 -- what is wrong is told before anything is written, except that memory may be refused, and a write may fail, while rows are written
 abbrev pub CausedAtOnce : Request → List ℕ → RunFault → Option (List ℕ) → Option (List ℕ) → Type 0
 CausedAtOnce request bytes (Input fault) old new = (is_memory fault ≡ false → CausedAll request bytes fault × Keeps old new) × (is_memory fault ≡ true → Keeps old new ⊎ IsBegun request bytes old new)
-CausedAtOnce request bytes Read old new = Keeps old new
+CausedAtOnce request bytes (Read fault) old new = Keeps old new
 CausedAtOnce request bytes Closed old new = IsBegun request bytes old new
 CausedAtOnce request bytes Write old new = IsBegun request bytes old new
 

@@ -71,7 +71,7 @@ module _ (text : Text) (wrong : Option ViewFault) (old new : Option (List ℕ)) 
   abbrev pub Draws : {X : Type 0} → Result X RunFault → Type 0
   Draws (Ok x) = (wrong ≡ None) × Appends old new text
   Draws (Err (Input fault)) = (is_memory fault ≡ false → (option_map fault_of_view wrong ≡ Some fault) × Keeps old new) × (is_memory fault ≡ true → Begins old new text)
-  Draws (Err Read) = ⊥
+  Draws (Err (Read fault)) = ⊥
   Draws (Err Closed) = Begins old new text
   Draws (Err Write) = Begins old new text
 
@@ -93,6 +93,6 @@ module _ (format : Format) (limit : ℕ) (all : List ℕ) where
   -- why there are none, unless memory was refused
   abbrev pub LacksFirst : RunFault → Type 0
   LacksFirst (Input fault) = is_memory fault ≡ false → fault_of_first ≡ Some (but_line_in fault)
-  LacksFirst Read = ⊤
+  LacksFirst (Read fault) = ⊤
   LacksFirst Closed = ⊥
   LacksFirst Write = ⊥

@@ -14,7 +14,7 @@ ghost use Rattle.ruled_table.specs.Plans.{Plan, is_always, plan_in};
 ghost use Rattle.ruled_table.specs.View.{all_fault, all_text, table_fault, table_text, whole_table};
 ghost use Rattle.ruled_io.specs.Faults.{is_early, is_read};
 ghost use Rattle.ruled_io.specs.Output.{TellsWrite, failure_of, write_part, Begins};
-ghost use Rattle.ruled_io.specs.Reading.{ReportsRead, has_failed};
+ghost use Rattle.ruled_io.specs.Reading.{ReportsRead, read_failure};
 ghost use Rattle.ruled_io.specs.Requests.{rows_needed};
 ghost use Rattle.ruled_io.specs.Runs.{AreRows, CausedAtOnce, LacksInput, ShowsAll};
 ghost use Rattle.ruled_io.specs.Steps.{Draws, DrawsInMemory};
@@ -40,7 +40,7 @@ fn read_rows<R: Read + Drop>(
     ensures rows { IfOk result (λ rows. IfSome (R.remaining pieces.old.input) (λ bytes. AreRows (rows_needed request.now.view) request.now.source bytes (map fields_of rows.items))) }
     ensures cause { IfErr result (λ fault. IfSome (R.remaining pieces.old.input) (λ bytes. LacksInput (rows_needed request.now.view) request.now.source bytes fault)) }
     ensures unwritten { IfErr result (λ fault. write_part fault ≡ None) }
-    ensures noted { ReportsRead (has_failed pieces.new) result }
+    ensures noted { ReportsRead (read_failure pieces.new) result }
 {
     let limit = rows_needed(&request.view).unwrap_or(usize::MAX);
     let rows = read_heads(alloc, &request.source, limit, pieces)?;
@@ -241,7 +241,7 @@ pub(crate) fn show_at_once<R: Read + Drop, W: Write + Drop>(
     ensures cause { IfErr result (λ fault. IfSome (R.remaining pieces.old.input) (λ bytes. CausedAtOnce request.now bytes fault (W.contents out.old.writer) (W.contents out.new.writer))) }
     ensures unwritten { IfErr result (λ fault. is_early fault ≡ true → Keeps (W.contents out.old.writer) (W.contents out.new.writer)) }
     ensures told { TellsWrite (failure_of out.old) (failure_of out.new) result }
-    ensures noted { ReportsRead (has_failed pieces.new) result }
+    ensures noted { ReportsRead (read_failure pieces.new) result }
 {
     let rows = read_rows(alloc, request, pieces)?;
     show_rows(alloc, &request.view, rows, out)?;

@@ -51,13 +51,22 @@ pub enum InputFault {
     Memory,
 }
 
+/// Why a read failed.
+#[derive(Clone, Copy)]
+pub enum ReadFault {
+    /// Bytes spell no character in the encoding of the input.
+    Encoding,
+    /// Anything else.
+    Failed,
+}
+
 /// Why a run shows no table, or not all of it.
 #[derive(Clone, Copy)]
 pub enum RunFault {
     /// The input has no table.
     Input(InputFault),
     /// A read failed.
-    Read,
+    Read(ReadFault),
     /// Nobody reads what is written.
     Closed,
     /// A write failed.
@@ -197,7 +206,13 @@ impl InputFault {
     // Writes its error line. An error is the writer's.
     fn tell<W: Write>(self, request: &Request, err: &mut W) -> io::Result<()> {
         match self {
+            InputFault::Rows(fault @ RowsFault::Encoding { .. }) => {
+                writeln!(err, "{fault}; try --encoding cp1252")
+            }
             InputFault::Rows(fault) => writeln!(err, "{fault}"),
+            InputFault::Json(fault @ JsonFault::Encoding(_)) => {
+                writeln!(err, "{fault}; try --encoding cp1252")
+            }
             InputFault::Json(fault) => writeln!(err, "{fault}"),
             InputFault::Sql(fault) => match request.source.selection() {
                 Some(Selection::Query(query)) => tell_refusal(fault, query, err),
@@ -262,8 +277,9 @@ impl RunFault {
     {
         match self {
             RunFault::Input(fault) => fault.status(),
+            RunFault::Read(ReadFault::Encoding) => 2,
             RunFault::Closed => 0,
-            RunFault::Read | RunFault::Write => 5,
+            RunFault::Read(ReadFault::Failed) | RunFault::Write => 5,
         }
     }
 
@@ -272,7 +288,10 @@ impl RunFault {
         write!(err, "ruled: ")?;
         match self {
             RunFault::Input(fault) => fault.tell(request, err)?,
-            RunFault::Read => writeln!(err, "read failed")?,
+            RunFault::Read(ReadFault::Encoding) => {
+                writeln!(err, "not UTF-16: a lone surrogate or an odd byte")?
+            }
+            RunFault::Read(ReadFault::Failed) => writeln!(err, "read failed")?,
             RunFault::Closed | RunFault::Write => writeln!(err, "write failed")?,
         }
         err.flush()

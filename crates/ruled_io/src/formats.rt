@@ -277,9 +277,10 @@ pub(crate) fn content_of(format: Format, bytes: &[u8]) -> &[u8]
     }
 }
 
-// Whether bytes show if the input that they are the first of begins with a mark.
-fn shows_mark(bytes: &[u8], mark: &[u8]) -> bool
-    ensures { result ≡ true → (behind : List ℕ) → starts_with nat_eq (bytes.now ++ behind) mark.now ≡ starts_with nat_eq bytes.now mark.now }
+/// Whether bytes show if the input that they are the first of begins with a mark.
+pub(crate) fn shows_mark(bytes: &[u8], mark: &[u8]) -> bool
+    ensures shown { result ≡ true → (behind : List ℕ) → starts_with nat_eq (bytes.now ++ behind) mark.now ≡ starts_with nat_eq bytes.now mark.now }
+    ensures long { length mark.now ≤ length bytes.now → result ≡ true }
 {
     bytes.len() >= mark.len() || !mark.starts_with(bytes)
 }

@@ -3,7 +3,7 @@
 ghost use Rattle.std.specs.Prelude.{◌≡◌, ◌++◌, ℕ, List, None, Some, map, IfErr, IfOk, IfSome};
 ghost use Rattle.csv.specs.Records.{fields_of};
 ghost use Rattle.ruled_io.specs.Output.{write_part};
-ghost use Rattle.ruled_io.specs.Reading.{ReportsRead, has_failed};
+ghost use Rattle.ruled_io.specs.Reading.{ReportsRead, read_failure};
 ghost use Rattle.ruled_io.specs.Requests.{rows_needed};
 ghost use Rattle.ruled_io.specs.Runs.{AreRows, LacksInput};
 ghost use Rattle.ruled_io.specs.Steps.{AreFirst, LacksFirst};
@@ -46,7 +46,7 @@ fn first_rows<R: Read + Drop>(
     ensures rows { (rest : List ℕ) → R.remaining pieces.old.input ≡ Some rest → IfOk result (λ rows. AreFirst format limit (front.now ++ rest) (map fields_of rows.items)) }
     ensures cause { (rest : List ℕ) → R.remaining pieces.old.input ≡ Some rest → IfErr result (LacksFirst format limit (front.now ++ rest)) }
     ensures unwritten { IfErr result (λ fault. write_part fault ≡ None) }
-    ensures noted { ReportsRead (has_failed pieces.new) result }
+    ensures noted { ReportsRead (read_failure pieces.new) result }
 {
     let mut rows = Vec::new(alloc);
     let reading = Reading::of_front(alloc, format, 1, front, &mut rows)?;
@@ -68,7 +68,7 @@ fn whole_rows<R: Read + Drop>(
     ensures rows { IfOk result (λ rows. IfSome (R.remaining pieces.old.input) (λ rest. AreRows None source.now (front.items ++ rest) (map fields_of rows.items))) }
     ensures cause { IfErr result (λ fault. IfSome (R.remaining pieces.old.input) (λ rest. LacksInput None source.now (front.items ++ rest) fault)) }
     ensures unwritten { IfErr result (λ fault. write_part fault ≡ None) }
-    ensures noted { ReportsRead (has_failed pieces.new) result }
+    ensures noted { ReportsRead (read_failure pieces.new) result }
 {
     let mut bytes = front;
     pieces.read_rest(&mut bytes)?;
@@ -85,7 +85,7 @@ pub(crate) fn read_heads<R: Read + Drop>(
     ensures rows { IfOk result (λ rows. IfSome (R.remaining pieces.old.input) (λ bytes. AreRows (Some limit) source.now bytes (map fields_of rows.items))) }
     ensures cause { IfErr result (λ fault. IfSome (R.remaining pieces.old.input) (λ bytes. LacksInput (Some limit) source.now bytes fault)) }
     ensures unwritten { IfErr result (λ fault. write_part fault ≡ None) }
-    ensures noted { ReportsRead (has_failed pieces.new) result }
+    ensures noted { ReportsRead (read_failure pieces.new) result }
 {
     let front = pieces.read_front(alloc, source)?;
     if source.is_database(&front) {

@@ -4,6 +4,8 @@
 
 mod at_once;
 mod database;
+mod decoded;
+mod encoding;
 mod fault;
 mod formats;
 mod heads;
@@ -17,8 +19,11 @@ mod program;
 mod reader;
 mod request;
 mod stream;
+mod window;
 
-pub use crate::fault::{InputFault, RunFault, StreamedFault};
+pub use crate::decoded::Decoded;
+pub use crate::encoding::Encoding;
+pub use crate::fault::{InputFault, ReadFault, RunFault, StreamedFault};
 pub use crate::formats::{Format, Kind, Known};
 pub use crate::laws::both_ways_show_one_text;
 pub use crate::name::{OneLine, Quoted};

@@ -1,14 +1,15 @@
 //! The bytes of an input, piece by piece.
 
-ghost use Rattle.std.specs.Prelude.{◌≡◌, ◌≤◌, ◌<◌, ◌++◌, ℕ, List, length, take, map, true, false, Err, Ok, IfErr, IfOk, IfSome, OnOk};
+ghost use Rattle.std.specs.Prelude.{◌≡◌, ◌≤◌, ◌<◌, ◌++◌, ℕ, List, length, take, map, true, Err, None, Ok, IfErr, IfOk, IfSome, OnOk};
+ghost use Rattle.std.specs.IoError.{error_kind};
 ghost use Rattle.std.specs.Io.KnownBytes.{Consumes, IsAtEnd};
 ghost use Rattle.csv.specs.Records.{fields_of};
-ghost use Rattle.ruled_io.specs.Faults.{IsOfRead, is_read};
-ghost use Rattle.ruled_io.specs.Reading.{BeginsSo, GoesOn, ReadsFront, ReportsRead, Stands, has_failed, left_in};
+ghost use Rattle.ruled_io.specs.Faults.{IsOfRead, is_read, read_part};
+ghost use Rattle.ruled_io.specs.Reading.{BeginsSo, GoesOn, ReadsFront, ReportsRead, Stands, read_failure, left_in};
 ghost use Rattle.ruled_io.specs.declared.formats.Format.{Format};
 ghost use Rattle.ruled_io.specs.declared.reader.Reading.{Reading};
 
-use crate::fault::{InputFault, RunFault};
+use crate::fault::{InputFault, ReadFault, RunFault};
 use crate::formats::{Known, shows_input};
 use crate::reader::{Reader, Reading};
 use crate::request::Source;
@@ -23,35 +24,36 @@ pub struct Pieces<R: Drop> {
     input: R,
     // The piece that was read last, at its front.
     buffer: [u8; 8192],
-    /// Whether a read has failed, other than for memory. Only what the reader says sets it.
-    has_failed: bool,
+    /// Why a read has failed, other than for memory. Only what the reader says sets it.
+    failure: Option<ReadFault>,
 }
 
 impl<R: Read + Drop> Pieces<R> {
     /// An input, of which nothing is read.
     pub fn new(input: R) -> Pieces<R>
         ensures left { left_in R.remaining result ≡ R.remaining input }
-        ensures fine { has_failed result ≡ false }
+        ensures fine { read_failure result ≡ None }
     {
         Pieces {
             input,
             buffer: [0; 8192],
-            has_failed: false,
+            failure: None,
         }
     }
 
     // Notes that a read failed with this error, and returns the fault of the run.
     fn failed(&mut self, error: io::Error) -> RunFault
         ensures failed { IsOfRead result }
-        ensures noted { is_read result ≡ true → has_failed self.new ≡ true }
+        ensures noted { is_read result ≡ true → read_failure self.new ≡ read_part result }
+        ensures encoding { error_kind error ≡ ErrorKind.InvalidData → result ≡ RunFault.Read ReadFault.Encoding }
     {
-        match error.kind() {
-            ErrorKind::OutOfMemory => RunFault::Input(InputFault::Memory),
-            _ => {
-                self.has_failed = true;
-                RunFault::Read
-            }
-        }
+        let fault = match error.kind() {
+            ErrorKind::OutOfMemory => return RunFault::Input(InputFault::Memory),
+            ErrorKind::InvalidData => ReadFault::Encoding,
+            _ => ReadFault::Failed,
+        };
+        self.failure = Some(fault);
+        RunFault::Read(fault)
     }
 
     // Reads a piece, and returns how many bytes it has: none at the end.
@@ -60,7 +62,7 @@ impl<R: Read + Drop> Pieces<R> {
         ensures piece { IfOk result (λ count. Consumes (R.remaining self.old.input) (R.remaining self.new.input) (take count self.new.buffer)) }
         ensures end { IfOk result (λ count. count ≡ 0 → IsAtEnd (R.remaining self.old.input)) }
         ensures failed { IfErr result IsOfRead }
-        ensures noted { ReportsRead (has_failed self.new) result }
+        ensures noted { ReportsRead (read_failure self.new) result }
     {
         for _ in 0..usize::MAX {
             match self.input.read(&mut self.buffer) {
@@ -77,7 +79,7 @@ impl<R: Read + Drop> Pieces<R> {
         ensures read { IfOk result (λ front. Consumes (R.remaining self.old.input) (R.remaining self.new.input) front.items) }
         ensures shown { IfOk result (λ front. IfSome (R.remaining self.old.input) (BeginsSo known front.items)) }
         ensures failed { IfErr result IsOfRead }
-        ensures noted { ReportsRead (has_failed self.new) result }
+        ensures noted { ReportsRead (read_failure self.new) result }
     {
         let mut front = Vec::new(alloc);
         for _ in 0..usize::MAX {
@@ -97,7 +99,7 @@ impl<R: Read + Drop> Pieces<R> {
     pub(crate) fn read_front(&mut self, alloc: Global, source: &Source) -> Result<Vec<u8>, RunFault>
         ensures read { IfOk result (λ front. IfSome (R.remaining self.old.input) (λ all. ReadsFront source.now all (R.remaining self.new.input) front.items)) }
         ensures failed { IfErr result IsOfRead }
-        ensures noted { ReportsRead (has_failed self.new) result }
+        ensures noted { ReportsRead (read_failure self.new) result }
     {
         self.read_shown(alloc, source.known())
     }
@@ -106,7 +108,7 @@ impl<R: Read + Drop> Pieces<R> {
     pub(crate) fn read_rest(&mut self, bytes: &mut Vec<u8>) -> Result<(), RunFault>
         ensures read { OnOk result (IfSome (R.remaining self.old.input) (λ rest. bytes.new.items ≡ bytes.old.items ++ rest)) }
         ensures failed { IfErr result IsOfRead }
-        ensures noted { ReportsRead (has_failed self.new) result }
+        ensures noted { ReportsRead (read_failure self.new) result }
     {
         for _ in 0..usize::MAX {
             let count = self.read()?;
@@ -128,7 +130,7 @@ impl<R: Read + Drop> Pieces<R> {
             → Stands format records all (R.remaining self.old.input) given (Reading.More reader)
             → IfOk result (GoesOn format records all (R.remaining self.new.input) given (map fields_of rows.old.items) (map fields_of rows.new.items)) }
         ensures failed { IfErr result IsOfRead }
-        ensures noted { ReportsRead (has_failed self.new) result }
+        ensures noted { ReportsRead (read_failure self.new) result }
     {
         let count = self.read()?;
         if count == 0 {

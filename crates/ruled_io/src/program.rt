@@ -3,9 +3,9 @@
 ghost use Rattle.std.specs.Prelude.{◌≡◌, true, Some, None, IfErr, IfOk, IfSome, OnOk};
 ghost use Rattle.std.specs.Io.KnownBytes.{Appends, Keeps};
 ghost use Rattle.std.specs.Result.{result_err};
-ghost use Rattle.ruled_io.specs.Faults.{is_early, status_after};
+ghost use Rattle.ruled_io.specs.Faults.{is_early, is_read, read_part, status_after};
 ghost use Rattle.ruled_io.specs.Output.{TellsWrite, failure_of, fault_written, written};
-ghost use Rattle.ruled_io.specs.Reading.{ReportsRead, has_failed, left_in};
+ghost use Rattle.ruled_io.specs.Reading.{ReportsRead, read_failure, left_in};
 ghost use Rattle.ruled_io.specs.Runs.{Caused, Shows};
 ghost use Rattle.ruled_io.specs.declared.fault.RunFault.{RunFault};
 ghost use Rattle.ruled_io.specs.declared.request.Rows.{Rows};
@@ -49,7 +49,7 @@ fn show<R: Read + Drop, W: Write + Drop>(
     ensures cause { IfErr result (λ fault. IfSome (R.remaining pieces.old.input) (λ bytes. Caused request.now bytes fault (W.contents out.old.writer) (W.contents out.new.writer))) }
     ensures unwritten { request.now.rows ≡ Rows.AtOnce → IfErr result (λ fault. is_early fault ≡ true → Keeps (W.contents out.old.writer) (W.contents out.new.writer)) }
     ensures told { TellsWrite (failure_of out.old) (failure_of out.new) result }
-    ensures noted { ReportsRead (has_failed pieces.new) result }
+    ensures noted { ReportsRead (read_failure pieces.new) result }
 {
     match request.rows {
         Rows::AtOnce => show_at_once(alloc, request, pieces, out),
@@ -106,7 +106,7 @@ pub fn run<R: Read + Drop, W1: Write + Drop, W2: Write>(
     ensures cause { IfSome result.fault (λ fault. IfSome (left_in R.remaining input.old) (λ bytes. Caused request.now bytes fault (written W1.contents out.old) (written W1.contents out.new))) }
     ensures unwritten { request.now.rows ≡ Rows.AtOnce → IfSome result.fault (λ fault. is_early fault ≡ true → Keeps (written W1.contents out.old) (written W1.contents out.new)) }
     ensures failed { failure_of out.old ≡ None → failure_of out.new ≡ fault_written result.fault }
-    ensures read { result.fault ≡ Some RunFault.Read → has_failed input.new ≡ true }
+    ensures read { IfSome result.fault (λ fault. is_read fault ≡ true → read_failure input.new ≡ read_part fault) }
     ensures silent { result.fault ≡ None → Keeps (W2.contents err.old) (W2.contents err.new) }
     ensures closed { result.fault ≡ Some RunFault.Closed → Keeps (W2.contents err.old) (W2.contents err.new) }
 {

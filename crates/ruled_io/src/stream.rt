@@ -1,15 +1,16 @@
 //! Rows that are shown one after another, each when it comes.
 
-ghost use Rattle.std.specs.Prelude.{◌≡◌, ◌<◌, ◌++◌, ◌∷◌, [], ℕ, Bool, List, None, Some, map, option_map, take, false, true, Err, IfErr, IfOk, IfSome, OnOk};
+ghost use Rattle.std.specs.Prelude.{◌≡◌, ◌<◌, ◌++◌, ◌∷◌, [], ℕ, List, None, Option, Some, map, option_map, take, false, true, Err, IfErr, IfOk, IfSome, OnOk};
 ghost use Rattle.std.specs.Io.KnownBytes.{Keeps};
 ghost use Rattle.csv.specs.Records.{fields_of};
 ghost use Rattle.ruled_table.specs.Appended.{HasAppended};
 ghost use Rattle.ruled_table.specs.Plans.{Plan};
 ghost use Rattle.ruled_io.specs.Faults.{IsOfRead, but_line_in, is_failure, is_of_write};
 ghost use Rattle.ruled_io.specs.Output.{TellsWrite, failure_in, failure_of};
-ghost use Rattle.ruled_io.specs.Reading.{ReportsRead, Stands, has_failed, sound_rows, wrong_in};
+ghost use Rattle.ruled_io.specs.Reading.{ReportsRead, Stands, read_failure, sound_rows, wrong_in};
 ghost use Rattle.ruled_io.specs.Steps.{EndsBelow, IsEnough, wrong_within};
 ghost use Rattle.ruled_io.specs.Stream.{Ends, StreamsAll, first_count, has_names, record_count};
+ghost use Rattle.ruled_io.specs.declared.fault.ReadFault.{ReadFault};
 ghost use Rattle.ruled_io.specs.declared.fault.RunFault.{RunFault};
 ghost use Rattle.ruled_io.specs.declared.formats.Format.{Format};
 ghost use Rattle.ruled_table.specs.declared.options.Options.{Options};
@@ -40,7 +41,7 @@ fn write_table<R: Read + Drop, W: Write + Drop>(
         → HasAppended options plan above table.entry
         → EndsBelow options plan (sound_rows format records all) (wrong_in format records all) above (W.contents out.old.writer) (W.contents out.new.writer) result }
     ensures told { TellsWrite (failure_of out.old) (failure_of out.new) result }
-    ensures noted { ReportsRead (has_failed pieces.new) result }
+    ensures noted { ReportsRead (read_failure pieces.new) result }
 {
     let mut buf = String::new(alloc);
     for _ in 0..usize::MAX {
@@ -69,7 +70,7 @@ pub(crate) fn read_first<R: Read + Drop>(
         → IfOk result (Stands format records all (R.remaining pieces.new.input) (map fields_of rows.new.items)) }
     ensures enough { IfOk result (IsEnough count (map fields_of rows.new.items)) }
     ensures failed { IfErr result IsOfRead }
-    ensures noted { ReportsRead (has_failed pieces.new) result }
+    ensures noted { ReportsRead (read_failure pieces.new) result }
 {
     for _ in 0..usize::MAX {
         match reading {
@@ -109,7 +110,7 @@ fn show_table<R: Read + Drop, W: Write + Drop>(
         → Stands format records all (R.remaining pieces.old.input) (map fields_of rows.items) reading
         → Ends options.now count (sound_rows format records all) (wrong_in format records all) (W.contents out.old.writer) (W.contents out.new.writer) result }
     ensures told { TellsWrite (failure_of out.old) (failure_of out.new) result }
-    ensures noted { ReportsRead (has_failed pieces.new) result }
+    ensures noted { ReportsRead (read_failure pieces.new) result }
 {
     if let Some(fault) = wrong_within(&reading, count, rows.len()) {
         return Err(RunFault::Input(fault));
@@ -166,7 +167,7 @@ fn show_rows<R: Read + Drop, W: Write + Drop>(
         → Ends options.now (first_count options.now format count) (sound_rows format (record_count count) (front.now ++ rest))
         (wrong_in format (record_count count) (front.now ++ rest)) (W.contents out.old.writer) (W.contents out.new.writer) result }
     ensures told { TellsWrite (failure_of out.old) (failure_of out.new) result }
-    ensures noted { ReportsRead (has_failed pieces.new) result }
+    ensures noted { ReportsRead (read_failure pieces.new) result }
 {
     let mut rows = Vec::new(alloc);
     let reading = Reading::of_front(alloc, format, record_count(count), front, &mut rows)?;
@@ -185,7 +186,7 @@ fn show_input<R: Read + Drop, W: Write + Drop>(
 ) -> Result<(), RunFault>
     ensures ends { IfSome (R.remaining pieces.old.input) (λ bytes. StreamsAll request.now count bytes (W.contents out.old.writer) (W.contents out.new.writer) result) }
     ensures told { TellsWrite (failure_of out.old) (failure_of out.new) result }
-    ensures noted { ReportsRead (has_failed pieces.new) result }
+    ensures noted { ReportsRead (read_failure pieces.new) result }
 {
     let front = pieces.read_front(alloc, &request.source)?;
     if request.source.is_database(&front) {
@@ -204,7 +205,7 @@ fn show_to_end<W: Write + Drop>(
     ensures kept { Keeps (W.contents out.old.writer) (W.contents out.new.writer) }
     ensures fine { OnOk result (answer ≡ result) }
     ensures early { (fault : RunFault) → result ≡ Err fault → is_failure fault ≡ false → answer ≡ result }
-    ensures noted { (failed : Bool) → ReportsRead failed answer → ReportsRead failed result }
+    ensures noted { (failure : Option ReadFault) → ReportsRead failure answer → ReportsRead failure result }
     ensures told { failure_of out.old ≡ failure_in answer → failure_of out.new ≡ failure_in result }
 {
     out.flush()?;
@@ -222,7 +223,7 @@ pub(crate) fn stream<R: Read + Drop, W: Write + Drop>(
 ) -> Result<(), RunFault>
     ensures ends { IfSome (R.remaining pieces.old.input) (λ bytes. StreamsAll request.now count bytes (W.contents out.old.writer) (W.contents out.new.writer) result) }
     ensures told { TellsWrite (failure_of out.old) (failure_of out.new) result }
-    ensures noted { ReportsRead (has_failed pieces.new) result }
+    ensures noted { ReportsRead (read_failure pieces.new) result }
 {
     let answer = show_input(alloc, request, count, pieces, out);
     show_to_end(answer, out)

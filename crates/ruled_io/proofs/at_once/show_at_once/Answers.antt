@@ -1,7 +1,7 @@
 use Rattle.std.proofs.Common.{◌∙◌, List, ℕ, map}
 use Rattle.csv.specs.Records.{fields_of}
 use Rattle.ruled_table.specs.View.{table_fault, table_text}
-use Rattle.ruled_io.specs.Reading.{has_failed}
+use Rattle.ruled_io.specs.Reading.{read_failure}
 use Rattle.ruled_io.specs.Requests.{rows_needed}
 use Rattle.ruled_io.specs.Runs.{AreRows, CausedAtOnce, LacksInput}
 use Rattle.ruled_io.proofs.AtOnce.{draws-unread, no-read, read-handed, writes-only}
@@ -59,9 +59,9 @@ returns-clause-unwritten g c = late _ c.flush.result c.flush.ensures.failed
 
 pub returns-in_err-show_rows-clause-noted : goal.returns-in_err-show_rows-clause-noted
 returns-in_err-show_rows-clause-noted g c =
-    let failed = has_failed c.read_rows.new.pieces in
+    let failed = read_failure c.read_rows.new.pieces in
     let found = c.in_err-show_rows.field-0.0 in
     read-handed failed found c.from_residual-in_err-show_rows.result c.from_residual-in_err-show_rows.ensures.1 (draws-unread failed _ _ _ _ found c.in_err-show_rows.ensures.draws)
 
 pub returns-clause-noted : goal.returns-clause-noted
-returns-clause-noted g c = no-read (has_failed c.read_rows.new.pieces) c.flush.result (writes-only c.flush.result c.flush.ensures.failed)
+returns-clause-noted g c = no-read (read_failure c.read_rows.new.pieces) c.flush.result (writes-only c.flush.result c.flush.ensures.failed)

@@ -1,6 +1,8 @@
-use Rattle.std.proofs.Common.{◌∙◌, sym, ap}
+use Rattle.std.proofs.Common.{◌≡◌, ◌∙◌, Option, IfSome, true, sym, subst, ap}
+use Rattle.ruled_io.specs.Faults.{is_read, read_part}
+use Rattle.ruled_io.specs.declared.fault.RunFault.{RunFault}
 use Rattle.ruled_io.specs.Output.{fault_written}
-use Rattle.ruled_io.specs.Reading.{has_failed}
+use Rattle.ruled_io.specs.Reading.{read_failure}
 use Rattle.ruled_io.proofs.AtOnce.{read-noted}
 use Rattle.ruled_io.proofs.Causes.{written-err}
 use Rattle.ruled_io.proofs.program.run.Goals as goal
@@ -9,4 +11,6 @@ pub returns-clause-failed : goal.returns-clause-failed
 returns-clause-failed g c = λ none. c.show.ensures.told none ∙ written-err c.show.result ∙ sym (ap fault_written c.ending_of.ensures.fault)
 
 pub returns-clause-read : goal.returns-clause-read
-returns-clause-read g c = λ is. read-noted (has_failed c.show.new.pieces) c.show.result c.show.ensures.noted (sym c.ending_of.ensures.fault ∙ is)
+returns-clause-read g c =
+    let failure = read_failure c.show.new.pieces in
+    subst (λ (fault : Option RunFault). IfSome fault (λ found. is_read found ≡ true → failure ≡ read_part found)) (sym c.ending_of.ensures.fault) (read-noted failure c.show.result c.show.ensures.noted)

@@ -1,4 +1,4 @@
-use Rattle.ruled_io.specs.Reading.{has_failed}
+use Rattle.ruled_io.specs.Reading.{read_failure}
 use Rattle.ruled_io.specs.Stream.{StreamsAll, streamed_count, streamed_rows, streamed_wrong}
 use Rattle.ruled_io.proofs.Inputs.{if-more}
 use Rattle.ruled_io.proofs.Shows.{ends-kept}
@@ -20,4 +20,4 @@ pub returns-clause-told : goal.returns-clause-told
 returns-clause-told g c = λ none. c.show_to_end.ensures.told (c.show_input-answer.ensures.told none)
 
 pub returns-clause-noted : goal.returns-clause-noted
-returns-clause-noted g c = c.show_to_end.ensures.noted (has_failed c.show_input-answer.new.pieces) c.show_input-answer.ensures.noted
+returns-clause-noted g c = c.show_to_end.ensures.noted (read_failure c.show_input-answer.new.pieces) c.show_input-answer.ensures.noted

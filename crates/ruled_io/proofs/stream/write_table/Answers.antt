@@ -5,7 +5,7 @@ use Rattle.ruled_io.specs.declared.fault.InputFault.TheVariants.{Memory}
 use Rattle.ruled_io.specs.declared.fault.RunFault.{RunFault}
 use Rattle.ruled_io.specs.declared.fault.RunFault.TheVariants.{Input}
 use Rattle.ruled_io.specs.declared.reader.Reading.{Reading}
-use Rattle.ruled_io.specs.Reading.{has_failed}
+use Rattle.ruled_io.specs.Reading.{read_failure}
 use Rattle.ruled_io.proofs.AtOnce.{write-handed}
 use Rattle.ruled_io.proofs.Tables.{Runs, read-fails, runs-begin, runs-end, runs-fail, runs-on, runs-stop, runs-wrote, write-fails}
 use Rattle.ruled_io.proofs.stream.write_table.Goals as goal
@@ -92,4 +92,4 @@ returns-clause-ends g c = λ options plan format records all above stands has.
 pub returns-in_err-flush-in-More-clause-noted : goal.returns-in_err-flush-in-More-clause-noted
 returns-in_err-flush-in-More-clause-noted g c =
     let found = c.in_err-flush-in-More.field-0.0 in
-    write-handed (has_failed c.loop.pieces) found c.from_residual-in_err-flush-in-More.result (c.in_err-flush-in-More.ensures.failed found refl) c.from_residual-in_err-flush-in-More.ensures.1
+    write-handed (read_failure c.loop.pieces) found c.from_residual-in_err-flush-in-More.result (c.in_err-flush-in-More.ensures.failed found refl) c.from_residual-in_err-flush-in-More.ensures.1

@@ -1,0 +1,11 @@
+use Rattle.std.proofs.Common.{◌≡◌, [], Some}
+use Rattle.ruled_io.specs.Decodings.{IsSeen, KeepsDecoding, decoding_left}
+use Rattle.ruled_io.specs.Windows.{items, room}
+use Rattle.ruled_io.proofs.decoded.Decoded.fill.Given as goal
+
+abbrev pub invariant-loop : goal.invariant-loop
+invariant-loop g l =
+    KeepsDecoding (decoding_left g.R.Read.remaining l.fn.self) (decoding_left g.R.Read.remaining l.self)
+    × IsSeen (Some l.scheme) l.self
+    × (items l.self.text ≡ [])
+    × (room l.self.text ≡ 8192)
