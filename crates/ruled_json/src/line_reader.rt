@@ -63,7 +63,6 @@ pub struct LineReader {
 
 impl LineReader {
     /// A reader that has read nothing.
-    #[tactic(auto, using(crate::proofs::StreamedLines::fresh))]
     pub fn new(alloc: Global, records: usize) -> LineReader
         ensures { HasRead records [] result }
     {

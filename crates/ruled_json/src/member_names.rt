@@ -110,7 +110,6 @@ impl MemberNames {
     }
 
     // Whether there is a column of this name.
-    #[tactic(auto, using(crate::proofs::Views::among))]
     fn has(&self, name: &str) -> bool
         ensures { result ≡ list_any (bytes_eq name.now) (map string_bytes self.now.names.keys) }
     {
@@ -214,7 +213,6 @@ impl MemberNames {
     }
 
     // The row of a record of few columns.
-    #[tactic(auto, using(crate::proofs::Views::part_has_numbers, crate::proofs::Tables::whole_row))]
     fn narrow_row(&self, alloc: Global, value: &Value<'_>) -> Result<StringRecord, AllocError>
         requires numbers { HasNumbers (value_view value.now) }
         ensures { IfOk result (λ row. fields_of row ≡ row_of (map string_bytes self.now.names.keys) (value_view value.now)) }
