@@ -108,7 +108,7 @@ fn find<'r>(mut schema: &'r [StringRecord], name: &str) -> Option<Listed<'r>>
     None
 }
 
-#[tactic(auto, unfolding(crate::specs::Listings::schema_definition), using(crate::proofs::Listing::lacks_rows))]
+#[tactic(auto, unfolding(crate::specs::Listings::schema_definition))]
 // The entries of a schema: the type, the name, the table, the page and the statement of each.
 fn schema_rows(alloc: Global, file: File<'_>) -> Result<Vec<StringRecord>, DatabaseFault>
     ensures rows { IfOk result (λ rows. AreListed file.entry.bytes.now (map fields_of rows.items)) }
@@ -191,7 +191,6 @@ fn entry_rows(
 ///
 /// A value is shown as by [`crate::push_value`]. Of the schema's statements, only that of this table is read, and
 /// of that only the columns.
-#[tactic(auto, using(crate::proofs::Listing::lacks_listed))]
 pub fn table_rows(
     alloc: Global,
     bytes: &[u8],
@@ -279,7 +278,6 @@ fn push_listing(
 }
 
 // The list of these entries.
-#[tactic(auto, using(crate::proofs::Listing::lacks_lines))]
 fn listing_of(alloc: Global, schema: &[StringRecord]) -> Result<Vec<StringRecord>, TableFault>
     ensures rows { IfOk result (λ rows. map fields_of rows.items ≡ spec.listing (map fields_of schema.now)) }
     ensures fault { IfErr result (LacksEntries (map fields_of schema.now)) }
@@ -293,7 +291,6 @@ fn listing_of(alloc: Global, schema: &[StringRecord]) -> Result<Vec<StringRecord
 
 /// The tables and views of the database that the bytes of its file hold: the name, the kind and the columns of
 /// each, below a row of these words.
-#[tactic(auto, using(crate::proofs::Listing::lacks_schema))]
 pub fn list_rows(alloc: Global, bytes: &[u8]) -> Result<Vec<StringRecord>, DatabaseFault>
     ensures rows { IfOk result (λ rows. IsListing bytes.now (map fields_of rows.items)) }
     ensures fault { IfErr result (LacksListing bytes.now) }
