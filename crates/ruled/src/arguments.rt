@@ -102,7 +102,7 @@ const FLAG: Choice = Choice {
 };
 
 /// All arguments, in the order of the help.
-const CHOICES: [Choice; 33] = [
+const CHOICES: [Choice; 34] = [
     Choice {
         name: "file",
         value: "FILE",
@@ -246,6 +246,12 @@ const CHOICES: [Choice; 33] = [
         name: "count",
         conflicts: &["stream", "markdown"],
         help: "Say below the table how many rows and columns there are",
+        ..FLAG
+    },
+    Choice {
+        name: "no-count",
+        conflicts: &["count"],
+        help: "Say nothing below a table in the look psql, which has --count unless it is streamed",
         ..FLAG
     },
     Choice {
@@ -545,6 +551,12 @@ fn vertical_of(found: &ArgMatches) -> Vertical {
     }
 }
 
+// Whether a line counts the rows: where that is asked for, and below the look of psql, which does so.
+fn is_counting(found: &ArgMatches, look: Look) -> bool {
+    let is_silent = found.get_flag("no-count") || found.get_one::<u32>("stream").is_some();
+    found.get_flag("count") || (matches!(look, Look::Psql) && !is_silent)
+}
+
 // How rows are shown.
 fn view_of(
     alloc: Global,
@@ -565,7 +577,7 @@ fn view_of(
         head: found.get_one::<u32>("head"),
         tail: found.get_one::<u32>("tail"),
         ends: found.get_one::<u32>("ends"),
-        is_counting: found.get_flag("count"),
+        is_counting: is_counting(found, look),
         vertical: vertical_of(found),
         bounds: bounds_of(alloc, found, screen.columns)?,
         is_omitting: is_omitting(found, screen),
