@@ -310,3 +310,6 @@ row-fits s cells texts next others all fit = subst (λ (rows : List (List Text))
 
 pub last-fits : (s : Printing) (cells : List Text) (texts : List (List Text)) → texts ≡ [] → RowsFit s (cells ∷ texts) → RowFits s cells true
 last-fits s cells texts all fit = subst (λ (rows : List (List Text)). RowsFit s (cells ∷ rows)) all fit
+
+-- rows make the picture
+pub ruleset pictures_of_rows = (rows-make, live-make, may-be-printed)

@@ -5,6 +5,7 @@ ghost use Rattle.pg_stream.specs.Laws.{RowsMakeThePicture, LiveRowsMakeThePictur
 /// All rows of a table whose spans fit it, printed one after another, and then the end, are its
 /// picture: with the number of rows that of looked-up printing, without it the one in which side
 /// margins with an offset from the end are whole.
+#[tactic(auto, using(crate::proofs::PicturesOfRows::pictures_of_rows))]
 pub fn rows_make_the_picture()
     ensures { RowsMakeThePicture }
 {}
@@ -12,12 +13,14 @@ pub fn rows_make_the_picture()
 /// All rows of a table whose spans fit it, printed one after another without declaring one the
 /// last, and then the end, are its picture, in which side margins with an offset from the end are
 /// whole.
+#[tactic(auto, using(crate::proofs::PicturesOfRows::pictures_of_rows))]
 pub fn live_rows_make_the_picture()
     ensures { LiveRowsMakeThePicture }
 {}
 
 /// The lines of a printer are those of its rows, by their heights: before the first row, and after
 /// each.
+#[tactic(auto, using(crate::proofs::SizedRows::pictures_of_sized_rows))]
 pub fn rows_count_their_lines()
     ensures { RowsCountTheirLines }
 {}
@@ -27,12 +30,14 @@ pub fn rows_count_their_lines()
 /// the end are whole.
 ///
 /// [`SizedStream`]: crate::SizedStream
+#[tactic(auto, using(crate::proofs::SizedRows::pictures_of_sized_rows))]
 pub fn sized_rows_make_the_picture()
     ensures { SizedRowsMakeThePicture }
 {}
 
 /// A table that fits (`pg_picture::fits::table_fits`) may be printed row by row: its printer may be
 /// made, with the number of rows or without it, and each of its rows may be printed when it comes.
+#[tactic(auto, using(crate::proofs::PicturesOfRows::pictures_of_rows))]
 pub fn tables_that_fit_may_be_printed()
     ensures { FittingTablesMayBePrinted }
 {}
