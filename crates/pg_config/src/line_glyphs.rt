@@ -36,7 +36,6 @@ fn place_over<A: Allocator, D: Dimension>(
     line_place(config, columns, dimension, k)
 }
 
-#[tactic(auto, using(crate::proofs::EqualLines::at_crossing, crate::proofs::EqualLines::at_glyph, crate::proofs::EqualLines::step, crate::proofs::EqualLines::behind_all))]
 fn line_place<A: Allocator, D: Dimension>(
     config: &SpannedConfig<A>,
     columns: usize,
