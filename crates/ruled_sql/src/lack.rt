@@ -222,7 +222,6 @@ fn word_of(text: &[u8]) -> &[u8]
 }
 
 // A text without the blanks at its front.
-#[tactic(auto, using(std::proofs::lemmas::Str::Ascii::trim_ascii_start_is))]
 fn without_blanks(text: &[u8]) -> &[u8]
     ensures { result.now ≡ spec.without_blanks text.now }
 {
