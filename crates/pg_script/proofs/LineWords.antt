@@ -462,8 +462,5 @@ no_error-is_ok {X} {E} (Err e) none = absurd (false≢true (ap (λ (o : Option E
 -- bytes that are a text, and others
 pub ruleset texts_of_lines = (is_utf8-from_IsUtf8, is_utf8-false)
 
--- characters and numbers that words write
-pub ruleset words_read = (char_of-backslash, char_of-read, escaped_of-none, number_of-read)
-
--- the rows of the cells' texts
-pub ruleset rows_of_texts = (map-set_in_row, map-steps, even-not_ragged, no_error-is_ok)
+-- characters that words write
+pub ruleset words_read = (char_of-backslash, char_of-read, escaped_of-none)

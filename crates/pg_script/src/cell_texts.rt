@@ -45,7 +45,6 @@ impl<A: Allocator + Copy> CellTexts<A> {
     }
 
     /// Changes the text of one cell.
-    #[tactic(auto, using(crate::proofs::LineWords::rows_of_texts))]
     pub(crate) fn set(&mut self, place: Position, text: String<A>)
         requires row { place.row < self.old.size.rows }
         requires column { place.col < self.old.size.columns }
@@ -56,7 +55,6 @@ impl<A: Allocator + Copy> CellTexts<A> {
     }
 
     /// The texts as records.
-    #[tactic(auto, using(crate::proofs::LineWords::rows_of_texts))]
     pub(crate) fn into_records(self) -> VecRecords<String<A>, A>
         ensures { map (λ row. map string_bytes row) result ≡ texts_of self }
     {

@@ -105,7 +105,6 @@ impl<'a> Words<'a> {
 
 /// The number that a word writes in decimal digits, or `None` if it has other characters, too many
 /// digits or too great a value.
-#[tactic(auto, using(crate::proofs::LineWords::words_read))]
 pub(crate) fn number_of(word: &str) -> Option<usize>
     ensures { result ≡ number_of word.now }
 {
