@@ -10,4 +10,3 @@ mod Readers
 mod SameLines
 mod Shows
 mod Tables
-mod Windows

@@ -1,10 +1,20 @@
 -- What a reader of text has left.
-use Rattle.std.specs.Prelude.{◌≡◌, ⊤, ℕ, true, false, List, [], Option, Some, None, IsSomeAnd, option_map, if◌then◌else◌}
+use Rattle.std.specs.Prelude.{◌≡◌, ⊤, ℕ, true, false, List, [], Option, Some, None, IsSomeAnd, option_map, if◌then◌else◌, ◌-◌, slice_range}
 use Rattle.std.specs.Io.KnownBytes.{prepend_known}
 use Rattle.ruled_io.specs.Encodings.{Decoding, behind, decoding_as, scheme_of}
-use Rattle.ruled_io.specs.Windows.{items}
 use Rattle.ruled_io.specs.declared.decoded.Decoded.{Decoded}
 use Rattle.ruled_io.specs.declared.encoding.Scheme.{Scheme}
+use Rattle.ruled_io.specs.declared.window.Window.{Window}
+
+-- those that it holds
+abbrev pub items : Window → List ℕ
+items window = slice_range window.bytes window.start window.end
+
+-- how many more find room behind them
+abbrev pub room : Window → ℕ
+room window = 8192 - window.end
+
+-- ---- readers of text
 
 -- known text stays as it was
 abbrev pub KeepsDecoding : Option Decoding → Option Decoding → Type 0

@@ -1,5 +1,5 @@
 -- Why a run shows no table, or not all of it.
-use Rattle.std.specs.Prelude.{◌≡◌, ◌⊎◌, ℕ, Bool, true, false, not, Option, Some, None, Result, Ok, Err}
+use Rattle.std.specs.Prelude.{◌≡◌, ◌⊎◌, ℕ, Bool, true, false, not, Option, Some, None, Result, Ok, Err, List, codes}
 use Rattle.ruled_csv.specs.declared.fault.RowsFault.{RowsFault}
 use Rattle.ruled_csv.specs.declared.fault.RowsFault.TheVariants as rows
 use Rattle.ruled_csv.specs.Faults as csv
@@ -22,6 +22,8 @@ use Rattle.ruled_io.specs.declared.fault.RunFault.{RunFault}
 use Rattle.ruled_io.specs.declared.fault.RunFault.TheVariants.{Input, Read, Closed, Write}
 use Rattle.ruled_io.specs.declared.output.WriteFault.{WriteFault}
 use Rattle.ruled_io.specs.declared.output.WriteFault.TheVariants as write
+use Rattle.ruled_io.specs.declared.fault.StreamedFault.{StreamedFault}
+use Rattle.ruled_io.specs.declared.fault.StreamedFault.TheVariants as streamed
 
 -- ---- exit statuses
 
@@ -192,3 +194,9 @@ of_view fault = Input (fault_of_view fault)
 abbrev pub fault_of_write : WriteFault → RunFault
 fault_of_write write.Closed = Closed
 fault_of_write write.Failed = Write
+
+-- ---- the words for why rows can't be streamed
+
+abbrev pub streamed_fault_text : StreamedFault → List ℕ
+streamed_fault_text streamed.Value = codes "a single JSON value can't be streamed"
+streamed_fault_text streamed.Database = codes "a database can't be streamed"

@@ -12,5 +12,3 @@ pub mod Requests
 pub mod Runs
 pub mod Steps
 pub mod Stream
-pub mod Windows
-pub mod Words

@@ -2,7 +2,7 @@
 
 ghost use Rattle.std.specs.Prelude.{◌≡◌, Some};
 ghost use Rattle.ruled_io.specs.Faults as spec;
-ghost use Rattle.ruled_io.specs.Words.{streamed_fault_text};
+ghost use Rattle.ruled_io.specs.Faults.{streamed_fault_text};
 ghost use Rattle.ruled_io.specs.declared.fault.InputFault.TheVariants.{Memory};
 ghost use Rattle.ruled_io.specs.declared.fault.RunFault.TheVariants.{Input};
 

@@ -1,16 +1,18 @@
 -- Records as blocks: a table of two columns for each record, with a row for each field, of its name and its text.
-use Rattle.std.specs.Prelude.{ℕ, List, [], ◌∷◌, ◌++◌, drop, slice_index_or, Option, None}
+use Rattle.std.specs.Prelude.{ℕ, List, [], ◌∷◌, ◌++◌, drop, slice_index_or, Option, None, ◌≡◌, map}
 use Rattle.std.specs.List.{flat_map}
 use Rattle.std.specs.Option.{option_or}
 use Rattle.pg_layout.specs.Text.{Text}
 use Rattle.pg_config.specs.Config.{Config}
 use Rattle.ruled_table.specs.Columns.{places_of}
-use Rattle.ruled_table.specs.PairedRows.{pairs_of}
-use Rattle.ruled_table.specs.Shown.{look_config, shown_row}
+use Rattle.ruled_table.specs.LentRows.{pairs_of}
+use Rattle.ruled_table.specs.Shown.{look_config, shown_row, shown_text}
 use Rattle.ruled_table.specs.Tables.{fault_with, text_with}
 use Rattle.ruled_table.specs.declared.bounds.Bounds.{Bounds}
 use Rattle.ruled_table.specs.declared.fault.ViewFault.{ViewFault}
 use Rattle.ruled_table.specs.declared.options.Options.{Options}
+use Rattle.csv.specs.Records.{fields_of}
+use Rattle.ruled_table.specs.declared.blocks.Blocks.{Blocks}
 
 -- the block of a record with these names, and an empty line
 abbrev pub block_of : Bounds → Config → List Text → List Text → Text
@@ -46,3 +48,12 @@ module _ (options : Options) (rows : List (List Text)) where
 
   abbrev pub blocks_fault : Option ViewFault
   blocks_fault = records_fault (drop 1 rows)
+
+-- ---- blocks of records whose fields have names
+
+-- those in the first of these rows, by these options
+pub record HasNames (options : Options) (rows : List (List Text)) (blocks : Blocks) : Type 0 where
+  pub asked : blocks.options.now ≡ options
+  pub looks : blocks.config ≡ look_config options.look
+  pub named : fields_of blocks.names ≡ map (shown_text options) (slice_index_or rows 0 [])
+  pub at : blocks.places.items ≡ places_in options rows

@@ -3,17 +3,13 @@ pub mod Arranged
 pub mod Blocks
 pub mod Bounds
 pub mod Columns
-pub mod Drawn
-pub mod Escapes
 pub mod Faults
 pub mod Layouts
 pub mod LentRows
 pub mod Look
-pub mod Named
 pub mod Numbers
 pub mod Omitted
 pub mod Order
-pub mod PairedRows
 pub mod Plans
 pub mod Ranges
 pub mod RowLines

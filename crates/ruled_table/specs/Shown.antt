@@ -1,5 +1,5 @@
 -- What is shown of rows, and what their table looks like.
-use Rattle.std.specs.Prelude.{ℕ, ◌+◌, Bool, List, map, take, Option, Some, None, option_map, if◌then◌else◌}
+use Rattle.std.specs.Prelude.{ℕ, ◌+◌, Bool, List, map, take, Option, Some, None, option_map, if◌then◌else◌, ◌==◌, ◌||◌, not, chars, codes}
 use Rattle.pg_layout.specs.Text.{Text}
 use Rattle.pg_layout.specs.declared.borders.HorizontalLine.{HorizontalLine}
 use Rattle.pg_layout.specs.declared.position.Entity.TheVariants.{Global}
@@ -8,11 +8,30 @@ use Rattle.pg_config.specs.Config.{Config, default_config}
 use Rattle.pg_config.specs.Settings.{with_setting}
 use Rattle.pg_fit.specs.Controls.{visible_text}
 use Rattle.ruled_table.specs.Columns.{drawn_at}
-use Rattle.ruled_table.specs.Escapes.{escaped_text}
 use Rattle.ruled_table.specs.Look.{borders_of, header_line_of}
 use Rattle.ruled_table.specs.Sides.{sided}
 use Rattle.ruled_table.specs.declared.look.Look.{Look}
 use Rattle.ruled_table.specs.declared.options.Options.{Options}
+use Rattle.std.specs.List.{flat_map}
+use Rattle.std.specs.Char.{encode_utf8}
+
+-- what stands for a character in a cell of Markdown: `\|` for a bar, `\\` for a backslash, and `<br>` for a line feed
+abbrev pub escape_of : ℕ → List ℕ
+escape_of c =
+    if c == 124 then codes "\\|"
+    else if c == 92 then codes "\\\\"
+    else if c == 10 then codes "<br>"
+    else encode_utf8 c
+
+-- a character for which no other one stands there
+abbrev pub is_plain : ℕ → Bool
+is_plain c = not ((c == 124) || ((c == 92) || (c == 10)))
+
+-- a text as one cell of a table of Markdown
+unfoldable pub escaped_text : List ℕ → List ℕ
+escaped_text text = flat_map escape_of (chars text)
+
+-- ---- rows as they are shown
 
 -- ---- rows
 

@@ -8,7 +8,7 @@ ghost use Rattle.ruled_table.specs.Blocks as spec;
 ghost use Rattle.ruled_table.specs.Columns.{column_fault};
 ghost use Rattle.ruled_table.specs.Faults.{Tells};
 ghost use Rattle.ruled_table.specs.LentRows.{fields_at};
-ghost use Rattle.ruled_table.specs.Named.{HasNames};
+ghost use Rattle.ruled_table.specs.Blocks.{HasNames};
 ghost use Rattle.ruled_table.specs.Shown.{shown_text};
 ghost use Rattle.ruled_table.specs.declared.options.Options.{Options};
 

@@ -2,7 +2,7 @@
 
 ghost use Rattle.std.specs.Prelude.{◌≡◌, ◌++◌, true, chars, string_bytes, IfOk, OnOk};
 ghost use Rattle.std.specs.List.{list_all};
-ghost use Rattle.ruled_table.specs.Escapes.{escape_of, escaped_text, is_plain};
+ghost use Rattle.ruled_table.specs.Shown.{escape_of, escaped_text, is_plain};
 
 use std::alloc::{AllocError, Global};
 

@@ -8,7 +8,7 @@ ghost use Rattle.pg_stream.specs.Conditions.{RowFits};
 ghost use Rattle.pg_stream.specs.LiveStreams.{MayEnd};
 ghost use Rattle.pg_stream.specs.Printing.{after_row, finish_text, row_text};
 ghost use Rattle.pg_stream.specs.SizedStreams.{CountsLines, IsNextHeight};
-ghost use Rattle.ruled_table.specs.Drawn.{AreEven, HasDrawn};
+ghost use Rattle.ruled_table.specs.Appended.{AreEven, HasDrawn};
 ghost use Rattle.ruled_table.specs.Faults.{Tells};
 ghost use Rattle.ruled_table.specs.Layouts.{start_fault, whole_of};
 ghost use Rattle.ruled_table.specs.Plans.{Plan, plan_in};

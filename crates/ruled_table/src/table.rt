@@ -6,8 +6,7 @@ ghost use Rattle.pg_picture.specs.Picture.{picture};
 ghost use Rattle.pg_picture.specs.Table.{Known};
 ghost use Rattle.ruled_table.specs.Bounds.{bounded_fault, bounded_table};
 ghost use Rattle.ruled_table.specs.Faults.{Tells, totals_of};
-ghost use Rattle.ruled_table.specs.LentRows.{texts_of};
-ghost use Rattle.ruled_table.specs.PairedRows.{pairs_in};
+ghost use Rattle.ruled_table.specs.LentRows.{texts_of, pairs_in};
 ghost use Rattle.ruled_table.specs.Tables.{fault_with, text_with, with_line};
 ghost use Rattle.ruled_table.specs.Shown.{line_in, look_config, sided_config};
 

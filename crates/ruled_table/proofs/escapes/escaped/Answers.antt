@@ -1,7 +1,7 @@
 use Rattle.std.proofs.Common.{flat_map, sym, ap, ◌∙◌, map-id}
 use Rattle.std.proofs.lemmas.Iterator.{YieldsList-from_chars}
 use Rattle.std.proofs.lemmas.Iterator.Consumers.{YieldsList-end}
-use Rattle.ruled_table.specs.Escapes.{escape_of, escaped_text}
+use Rattle.ruled_table.specs.Shown.{escape_of, escaped_text}
 use Rattle.ruled_table.proofs.escapes.escaped.Goals as goal
 
 pub returns : goal.returns

@@ -1,5 +1,5 @@
 use Rattle.std.proofs.Common.{◌≡◌, flat_map, string_bytes}
-use Rattle.ruled_table.specs.Escapes.{escape_of}
+use Rattle.ruled_table.specs.Shown.{escape_of}
 use Rattle.ruled_table.proofs.escapes.escaped.Given as goal
 
 abbrev pub invariant-loop-c : goal.invariant-loop-c

@@ -1,5 +1,5 @@
 use Rattle.std.proofs.Common.{◌≡◌, ◌∙◌, true, ap, rules}
-use Rattle.ruled_table.specs.Escapes.{escaped_text}
+use Rattle.ruled_table.specs.Shown.{escaped_text}
 use Rattle.ruled_table.proofs.rows.stands.Goals as goal
 
 pub returns : goal.returns

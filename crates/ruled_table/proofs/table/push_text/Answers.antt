@@ -4,7 +4,7 @@ use Rattle.std.specs.Prelude.{◌==◌, OnErr, OnOk}
 use Rattle.pg_layout.specs.Text.{Text}
 use Rattle.pg_picture.specs.Appending.{GainedBeginning}
 use Rattle.ruled_table.specs.Faults.{Tells}
-use Rattle.ruled_table.specs.PairedRows.{pairs_in}
+use Rattle.ruled_table.specs.LentRows.{pairs_in}
 use Rattle.ruled_table.specs.declared.fault.ViewFault.{ViewFault}
 use Rattle.ruled_table.proofs.Tables.{fault_drawn, fault_none, text_drawn, text_none}
 use Rattle.ruled_table.proofs.table.push_text.Goals as goal

@@ -5,8 +5,7 @@ use Rattle.csv.specs.Records.{fields_of}
 use Rattle.pg_layout.specs.Text.{Text}
 use Rattle.pg_picture.specs.Appending.{GainedBeginning}
 use Rattle.ruled_table.specs.Blocks.{record_fault}
-use Rattle.ruled_table.specs.LentRows.{fields_at}
-use Rattle.ruled_table.specs.PairedRows.{pairs_of}
+use Rattle.ruled_table.specs.LentRows.{fields_at, pairs_of}
 use Rattle.ruled_table.specs.Tables.{text_with}
 use Rattle.ruled_table.proofs.LentTexts.{block-same, fault-same}
 use Rattle.ruled_table.proofs.Tables.{gained-first, gained-in, on-err, told_on}

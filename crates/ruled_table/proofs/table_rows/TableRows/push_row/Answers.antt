@@ -5,7 +5,7 @@ use Rattle.std.specs.Prelude.{OnOk}
 use Rattle.std.proofs.lemmas.Result.{on_ok_weaker}
 use Rattle.csv.specs.Records.{fields_of}
 use Rattle.pg_layout.specs.Text.{Text}
-use Rattle.ruled_table.specs.Drawn.{HasDrawn}
+use Rattle.ruled_table.specs.Appended.{HasDrawn}
 use Rattle.ruled_table.specs.Layouts.{cells_of}
 use Rattle.ruled_table.specs.Plans.{Measures, Plan, plan_in}
 use Rattle.ruled_table.specs.RowLines.{GrowsTo, HasNoRoomBelow, TellsRoom, begun_of}
