@@ -325,5 +325,5 @@ next-heights s (cells ∷ rows) counts = (record { above = counts; next = refl }
 pub sized-make : SizedRowsMakeThePicture
 sized-make t fit some wide = (next-heights _ _ (no-lines t.config t.columns t.width t.height t.color None), live-make t fit some wide)
 
--- sized rows make the picture
-pub ruleset pictures_of_sized_rows = (count-lines, sized-make)
+-- rows count their lines
+pub ruleset lines_of_sized_rows = (count-lines)

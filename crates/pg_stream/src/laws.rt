@@ -20,7 +20,7 @@ pub fn live_rows_make_the_picture()
 
 /// The lines of a printer are those of its rows, by their heights: before the first row, and after
 /// each.
-#[tactic(auto, using(crate::proofs::SizedRows::pictures_of_sized_rows))]
+#[tactic(auto, using(crate::proofs::SizedRows::lines_of_sized_rows))]
 pub fn rows_count_their_lines()
     ensures { RowsCountTheirLines }
 {}
@@ -30,7 +30,6 @@ pub fn rows_count_their_lines()
 /// the end are whole.
 ///
 /// [`SizedStream`]: crate::SizedStream
-#[tactic(auto, using(crate::proofs::SizedRows::pictures_of_sized_rows))]
 pub fn sized_rows_make_the_picture()
     ensures { SizedRowsMakeThePicture }
 {}
