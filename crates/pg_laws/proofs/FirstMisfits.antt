@@ -141,6 +141,3 @@ misfits_are_first t h k =
 pub misfit_of-colors : ColorsDontMatter
 unfolding misfit_of owner_fits rect_width rect_height rect_marks totals_fit full_width total_width body_height
 misfit_of-colors t color = refl
-
--- a table without a misfit fits
-pub ruleset fitting_tables = (fits, misfit_of-colors)

@@ -36,8 +36,6 @@ use Rattle.pg_peekable.specs.declared.grid.PeekableGrid.{PeekableGrid}
 use Rattle.pg_peekable.specs.Grids.{printed_table}
 use Rattle.pg_iter.specs.IterGrids.{streamed}
 use Rattle.pg_laws.specs.Laws.{KnowsMargins, HaveSameParts, TextsAreOne}
-use Rattle.pg_picture.proofs.Separators.{missing_glyph_fills_gaps}
-use Rattle.pg_picture.proofs.StraightColumns.{columns_are_straight, margins_are_straight}
 
 -- ---- the picture as its lines: how they are joined, and how many there are
 
@@ -177,6 +175,3 @@ pub ruleset heights = (rect_height-of_rect, length-table_body)
 
 -- lines are joined by one line feed, at which the picture is cut
 pub ruleset joined_lines = (lines_are_joined, compact_lines_are_joined, lines_are_cut, compact_lines_are_cut)
-
--- columns are straight
-pub ruleset straight_columns = (missing_glyph_fills_gaps, columns_are_straight, margins_are_straight)

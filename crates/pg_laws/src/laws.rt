@@ -70,7 +70,6 @@ pub fn full_cells_ignore_vertical_alignment()
 /// missing: the pieces of each line of the body add up to the widths of all columns, and one for
 /// each column line that exists. With the side margins each line of the picture is as wide as the
 /// full width. No glyph is missing if the missing glyph is set.
-#[tactic(auto, using(crate::proofs::LinesOfPictures::straight_columns))]
 pub fn columns_are_straight()
     ensures body { ColumnsAreStraight }
     ensures no_gaps { MissingGlyphFillsGaps }
@@ -134,7 +133,6 @@ pub fn heights_are_lines()
 
 /// A table with rows and columns and no misfit has spans and totals that fit, and room in each of
 /// its cells. Colours don't matter.
-#[tactic(auto, using(crate::proofs::FirstMisfits::fitting_tables))]
 pub fn no_misfit_means_fits()
     ensures parts { NoMisfitMeansFits }
     ensures colors { ColorsDontMatter }

@@ -14,7 +14,6 @@ pub fn the_latest_setting_counts<V>()
 /// After the border of a cell is set, the eight places round the cell have the values that the
 /// border has for them: all its parts, if the cell has a line below it and one at its right. All
 /// other places, and those that the border lacks, keep their values.
-#[tactic(auto, using(crate::proofs::SettingLaws::border_overrides, crate::proofs::SettingLaws::border_parts))]
 pub fn a_border_overrides_its_places<G>()
     ensures places { ABorderOverridesItsPlaces G }
     ensures parts { ABorderHasItsParts G }
@@ -23,7 +22,6 @@ pub fn a_border_overrides_its_places<G>()
 /// So the getters of the lines and crossings round the cell return the glyphs and colours of its
 /// border, and a line with one of its glyphs exists. For any other place they return what they did
 /// before, except for the missing glyph where only the border makes the line.
-#[tactic(auto, using(crate::proofs::SettingLaws::border_glyphs, crate::proofs::SettingLaws::border_colors))]
 pub fn a_border_is_answered()
     ensures glyphs { ABorderIsAnswered }
     ensures colors { ABorderOfColorsIsAnswered }
@@ -40,7 +38,6 @@ pub fn a_row_line_overrides_its_places<G>()
 
 /// Lines before the last one don't depend on how many there are: neither whether they exist, nor
 /// their glyphs and colours.
-#[tactic(auto, using(pg_config::proofs::EqualLines::rows_stay, pg_config::proofs::EqualLines::columns_stay))]
 pub fn lines_before_the_last_stay()
     ensures rows { RowLinesStay }
     ensures columns { ColumnLinesStay }
@@ -58,7 +55,6 @@ pub fn an_offset_is_answered<V>()
 /// After a span is set, the cell's rectangle has that size, and those of all other cells keep
 /// theirs. The cell owns and covers the places of its rectangle, except for those that a rectangle
 /// before it holds. All other places are as without its span.
-#[tactic(auto, using(crate::proofs::SettingLaws::column_span, crate::proofs::SettingLaws::row_span))]
 pub fn a_span_is_answered()
     ensures column { AColumnSpanIsAnswered }
     ensures row { ARowSpanIsAnswered }
@@ -66,7 +62,6 @@ pub fn a_span_is_answered()
 
 /// Whether a padding colour, a justification, an offset or a border colour was ever set is shown by
 /// its test: it is true from then on, whatever is set later, and only by setters of its kind.
-#[tactic(auto, using(crate::proofs::SettingLaws::ever_set, crate::proofs::SettingLaws::nothing_at_first))]
 pub fn what_was_set_is_told()
     ensures told { WhatWasSetIsTold }
     ensures first { NothingWasSetAtFirst }
