@@ -1,12 +1,12 @@
 //! The subjects of the cases, and the part of the input on each.
 
 use crate::case::follow_all;
-use crate::scripts::case::ScriptCase;
-use crate::settings::case::SettingsCase;
+use crate::scripts::ScriptCase;
+use crate::settings::SettingsCase;
 use crate::speed::SpeedCase;
-use crate::streams::case::StreamCase;
-use crate::tables::case::TableCase;
-use crate::texts::case::TextCase;
+use crate::streams::StreamCase;
+use crate::tables::TableCase;
+use crate::texts::TextCase;
 use crate::values::check_values;
 use pg_testing::lines::{NumberedLine, read_lines};
 use pg_testing::refusing::Refusing;

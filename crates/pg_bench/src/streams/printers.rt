@@ -1,9 +1,9 @@
 //! Printers of rows.
 
 use crate::case::Wrong;
-use crate::streams::case::{Step, StepKind, StreamCase};
 use crate::streams::printing::Way;
 use crate::streams::watch::{Buffer, Memory, Watch};
+use crate::streams::{Step, StepKind, StreamCase};
 use pg_layout::{ConstantDimension, NoColors};
 use pg_stream::{RowFault, RowPrinter, StreamFault, printer_fits};
 use std::alloc::{AllocError, Global};

@@ -1,11 +1,11 @@
 //! How a table is printed in each of the ways in which its rows are handed over.
 
 use crate::case::{CaseFault, Mismatch, Wrong};
-use crate::streams::case::{StepKind, StreamCase};
 use crate::streams::cells::{check_counted, check_taken};
 use crate::streams::given::check_given;
 use crate::streams::values::check_values;
 use crate::streams::watch::{OLD, Watch};
+use crate::streams::{StepKind, StreamCase};
 use crate::tables::grid::Grid;
 use pg_testing::refusing::Refusing;
 use pg_testing::report::Report;

@@ -1,7 +1,7 @@
 //! What calls return and append, beside what is expected.
 
 use crate::case::{Mismatch, Wrong};
-use crate::streams::case::Step;
+use crate::streams::Step;
 use pg_testing::refusing::Refusing;
 use std::alloc::Global;
 use std::fmt::Display;

@@ -1,7 +1,7 @@
 //! Grids that say whether each line of a table is shown, and print it where it is.
 
-use crate::streams::case::{StepKind, StreamCase};
 use crate::streams::watch::{Buffer, Watch};
+use crate::streams::{StepKind, StreamCase};
 use crate::tables::grid::{Grid, GridCall, SizedTable};
 use crate::words::owned_row;
 use pg_config::CompactConfig;

@@ -1,7 +1,7 @@
 //! Calls of a builder with rows and settings of its own, and those that are made while memory is refused.
 
 use crate::case::{CaseFault, Mismatch, Wrong};
-use crate::tables::case::TableCase;
+use crate::tables::TableCase;
 use crate::tables::refusal::Refusal;
 use pg_config::SpannedConfig;
 use pg_layout::{AlignmentHorizontal, Borders, ColorsMap, HorizontalLine, Indent, Sides};

@@ -1,7 +1,7 @@
 //! How a table is drawn, and by which calls of what draws it.
 
 use crate::case::CaseFault;
-use crate::tables::case::TableCase;
+use crate::tables::TableCase;
 use crate::tables::grid::{Grid, GridCall, SPANNED, SizedTable};
 use crate::tables::refusal::Refusal;
 use pg_grid::{Misfit, PrintFault, WholePrinter};

@@ -1,7 +1,7 @@
 //! Tables that aren't drawn, and why; tables that are drawn while memory is refused, and those that no memory holds.
 
 use crate::case::{CaseFault, Mismatch, Wrong};
-use crate::tables::case::TableCase;
+use crate::tables::TableCase;
 use crate::tables::drawing::{Drawer, OLD};
 use pg_grid::{Misfit, PrintFault};
 use pg_table::TableFault;

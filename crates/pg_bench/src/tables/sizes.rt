@@ -1,10 +1,10 @@
 //! Natural sizes, and tables within a width.
 
 use crate::case::{CaseFault, Mismatch, Wrong};
-use crate::tables::case::TableCase;
+use crate::tables::TableCase;
 use crate::tables::drawing::Builder;
 use crate::tables::refusal::Refusal;
-use crate::texts::case::breaking_of;
+use crate::texts::breaking_of;
 use crate::words::number_of;
 use pg_layout::{ColorsMap, ConstantDimension, VecRecords};
 use pg_table::{FittedTable, NaturalTable, Overflow, TableFault};
