@@ -1,8 +1,7 @@
 -- Sets of lemmas that attributes of functions hand to the prover.
-use Rattle.ruled_table.proofs.LentTexts.{field_missing, field_there, columns-some, even-lent, pairs-count, pairs-columns, pairs-even, body-length}
+use Rattle.ruled_table.proofs.LentTexts.{field_missing, field_there, columns-some, even-lent, body-length}
 use Rattle.ruled_table.proofs.WordsOfColumns.{number-lost}
 use Rattle.ruled_table.proofs.DigitsAlone.{digits-number}
-use Rattle.ruled_table.proofs.RowPictures.{even-cells}
 use Rattle.std.proofs.lemmas.List.Folds.{list_all-map}
 
 -- the field at a place, and none
@@ -10,9 +9,6 @@ pub ruleset fields_found = (field_missing, field_there)
 
 -- how many columns lent rows have
 pub ruleset lent_columns = (columns-some, even-lent)
-
--- how many pairs of names and fields there are
-pub ruleset pairs = (pairs-count, pairs-columns, pairs-even)
 
 -- how many rows are below the header
 pub ruleset lengths = (body-length)
@@ -22,9 +18,6 @@ pub ruleset numbers_lost = (number-lost)
 
 -- digits are a number
 pub ruleset digits = (digits-number)
-
--- rows of one length
-pub ruleset even_rows = (even-cells)
 
 -- a test of all rows
 pub ruleset numbered_rows = (list_all-map)

@@ -109,19 +109,16 @@ impl<'a> Records for PairedRows<'a> {
         PairedRowsIter { rows: self }
     }
 
-    #[tactic(auto, using(crate::proofs::Rulesets::pairs))]
     fn count_columns(&self) -> usize {
         if self.places.is_empty() { 0 } else { 2 }
     }
 
-    #[tactic(auto, using(crate::proofs::Rulesets::pairs))]
     fn hint_count_rows(&self) -> Option<usize> {
         Some(self.places.len())
     }
 }
 
 impl<'a> ExactRecords for PairedRows<'a> {
-    #[tactic(auto, using(crate::proofs::Rulesets::pairs))]
     fn count_rows(&self) -> usize {
         self.places.len()
     }

@@ -194,7 +194,6 @@ impl<'a> TableRows<'a> {
     }
 
     /// Appends the end of the table; without rows nothing.
-    #[tactic(auto, using(crate::proofs::Rulesets::even_rows))]
     pub fn finish(self, buf: &mut String) -> Result<(), ViewFault>
         ensures end { (options : Options) (plan : Plan) (rows : List (List Text)) → HasAppended options plan rows self.entry
             → OnOk result (GrowsTo (begun_text options plan rows) (whole_text options plan rows) (string_bytes buf.old) (string_bytes buf.new)) }
