@@ -11,7 +11,7 @@ use Rattle.csv.specs.declared.parser.Action.TheVariants as act
 use Rattle.csv.specs.declared.parser.State.{State}
 use Rattle.csv.specs.declared.parser.State.TheVariants as st
 use Rattle.ruled_csv.specs.Lines.{is_comment, line_behind}
-use Rattle.ruled_csv.specs.Quotes.{config_of, has_quotes, state_behind}
+use Rattle.ruled_csv.specs.Quotes.{separator, config_of, has_quotes, state_behind}
 use Rattle.ruled_csv.specs.Inside.{Left, is_calm, leaves_out, read_of, left_after, left_from, left_of, left_start}
 use Rattle.ruled_csv.specs.Kept.{empty_line, end_of, is_line_end, is_left_out, kept_line, kept_text, lines_behind}
 use Rattle.ruled_csv.specs.declared.dialect.Dialect.{Dialect}
@@ -45,14 +45,14 @@ row-begun dialect state byte goes = go (byte == 10) (byte == 13) refl refl goes 
   go : (feed return : Bool) → (byte == 10) ≡ feed → (byte == 13) ≡ return → (feed || return) ≡ false → (state : State) → ends_at_end (step (config_of dialect) state byte).0 ≡ true
   go true return a b e state = absurd (true≢false e)
   go false true a b e state = absurd (true≢false e)
-  go false false a b e st.StartRecord = rw (a, b) (starts (has_quotes dialect.rows.fields && (byte == 34)) (byte == dialect.delimiter))
-  go false false a b e st.StartField = rw (a, b) (starts (has_quotes dialect.rows.fields && (byte == 34)) (byte == dialect.delimiter))
-  go false false a b e st.InField = rw (a, b) (joins (byte == dialect.delimiter))
+  go false false a b e st.StartRecord = rw (a, b) (starts (has_quotes dialect.rows.fields && (byte == 34)) (byte == separator dialect))
+  go false false a b e st.StartField = rw (a, b) (starts (has_quotes dialect.rows.fields && (byte == 34)) (byte == separator dialect))
+  go false false a b e st.InField = rw (a, b) (joins (byte == separator dialect))
   go false false a b e st.InQuoted = quoted (has_quotes dialect.rows.fields && (byte == 34)) (has_quotes dialect.rows.fields && false)
-  go false false a b e st.AfterQuote = rw (a, b) (closes (has_quotes dialect.rows.fields && true && (byte == 34)) (byte == dialect.delimiter))
+  go false false a b e st.AfterQuote = rw (a, b) (closes (has_quotes dialect.rows.fields && true && (byte == 34)) (byte == separator dialect))
   go false false a b e st.InEscape = refl
   go false false a b e st.InComment = rw a refl
-  go false false a b e st.AfterCr = rw (a, b) (starts (has_quotes dialect.rows.fields && (byte == 34)) (byte == dialect.delimiter))
+  go false false a b e st.AfterCr = rw (a, b) (starts (has_quotes dialect.rows.fields && (byte == 34)) (byte == separator dialect))
 
 state-more : (dialect : Dialect) (text : List ℕ) (byte : ℕ) → state_behind dialect (text ++ byte ∷ []) ≡ (step (config_of dialect) (state_behind dialect text) byte).0
 state-more dialect text byte = fold-append (λ (s : State) (b : ℕ). (step (config_of dialect) s b).0) st.StartRecord text (byte ∷ [])

@@ -1,5 +1,6 @@
 pub mod KeptTexts
 pub mod LinesKept
+pub mod CutWords
 mod Scans
 pub mod Readers
 mod Runs

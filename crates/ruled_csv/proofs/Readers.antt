@@ -9,7 +9,7 @@ use Rattle.std.specs.Result.{IsErrAnd}
 use Rattle.std.proofs.lemmas.Bool.{false≢true, true≢false}
 use Rattle.std.proofs.lemmas.List.{take-append-drop, take_more}
 use Rattle.ruled_csv.specs.Faults.{Tells, but_line, rows_fault, sound_rows, sound_rows_in}
-use Rattle.ruled_csv.specs.Inside.{Hand, Holds, Joins, Left, Scan, begins_out, empty_hand, fault_below, hand_below, hand_of, is_calm, last_row, leaves_out, left_of, lines_after, open_fault, row_ended, scan_after, scan_from, scan_of, scan_start, with_row}
+use Rattle.ruled_csv.specs.Inside.{Hand, Holds, Joins, Left, Scan, begins_out, empty_hand, fault_below, hand_below, hand_of, is_calm, last_row, leaves_out, left_of, lines_after, made, open_fault, row_at, scan_after, scan_from, scan_of, scan_start, with_row}
 use Rattle.ruled_csv.specs.Lines.{is_comment, line_behind}
 use Rattle.ruled_csv.specs.Kept.{end_of, is_left_out, is_line_end, kept_text}
 use Rattle.ruled_csv.specs.Quotes.{state_behind}
@@ -21,7 +21,7 @@ use Rattle.ruled_csv.specs.declared.reader.RowReader.{RowReader}
 use Rattle.ruled_csv.specs.declared.scanner.Scanner.{Scanner}
 use Rattle.ruled_csv.proofs.KeptTexts.{ReadsFirst, kept-grows, kept-is, kept-between, kept-more, kept-run, kept-still, left-more, run-none}
 use Rattle.ruled_csv.proofs.Runs.{same-scan}
-use Rattle.ruled_csv.proofs.Scans.{ended-scanned, fault-stays, records-scanned, scan-append}
+use Rattle.ruled_csv.proofs.Scans.{ended-scanned, fault-stays, all-scanned, scan-append}
 use Rattle.ruled_csv.proofs.SoundRows.{ended-first, stops-at, stops-last}
 use Rattle.ruled_csv.proofs.TextFaults.{fault-found, fault-last, line-is, state-is}
 use Rattle.ruled_csv.specs.declared.dialect.Dialect.{Dialect}
@@ -211,9 +211,9 @@ module _ (dialect : Dialect) (before : List ℕ) (byte : ℕ) (old : RowReader) 
     scan = subst (λ (s : Scan). Holds dialect s new) (sym next-is) holds;
   }
 
-  pub rows-scanned : (above new : List (List (List ℕ))) → new ≡ with_row above (row_ended dialect (scan_of dialect (kept_text dialect before)).hand byte)
+  pub rows-scanned : (above new : List (List (List ℕ))) → new ≡ with_row above (row_at dialect (scan_of dialect (kept_text dialect before)) byte)
       → AppendsRest (ended_rows dialect before) (ended_rows dialect (before ++ byte ∷ [])) above new
-  rows-scanned above new is = appends-rows dialect before (before ++ byte ∷ []) above new (row_ended dialect (scan_of dialect (kept_text dialect before)).hand byte) (ap (λ (s : Scan). s.rows) next-is) is
+  rows-scanned above new is = appends-rows dialect before (before ++ byte ∷ []) above new (row_at dialect (scan_of dialect (kept_text dialect before)) byte) (ap (λ (s : Scan). s.rows) next-is) is
 
   pub fault-scanned : (behind : List ℕ) (fault : RowsFault) → (scan_after dialect (scan_of dialect (kept_text dialect before)) byte).fault ≡ Some fault → rows_fault dialect ((before ++ byte ∷ []) ++ behind) ≡ Some fault
   unfolding rows_fault
@@ -273,16 +273,17 @@ module _ (dialect : Dialect) (bytes : List ℕ) (reader : RowReader) (read : Has
 
   -- and else what is wrong with the last row
   pub fault-end : (row : Option (List (List ℕ))) → open_fault (hand_of reader.scanner) ≡ None → row ≡ last_row (hand_of reader.scanner)
-      → rows_fault dialect bytes ≡ fault_below dialect (scan_of dialect (kept_text dialect bytes)).rows row
+      → rows_fault dialect bytes ≡ fault_below dialect (scan_of dialect (kept_text dialect bytes)).rows (made dialect (scan_of dialect (kept_text dialect bytes)).rows row)
   unfolding rows_fault
   fault-end row none is = fault-last dialect (kept_text dialect bytes) read.scan.right ∙ rw (← read.scan.hand, none, is) refl
 
   -- which stands below those that ended
-  pub rows-end : (row : Option (List (List ℕ))) (above new : List (List (List ℕ))) → row ≡ last_row (hand_of reader.scanner) → new ≡ with_row above row → AppendsRest (ended_rows dialect bytes) (rows_of dialect bytes) above new
+  pub rows-end : (row : Option (List (List ℕ))) (above new : List (List (List ℕ))) → row ≡ last_row (hand_of reader.scanner) → new ≡ with_row above (made dialect (scan_of dialect (kept_text dialect bytes)).rows row)
+      → AppendsRest (ended_rows dialect bytes) (rows_of dialect bytes) above new
   rows-end row above new is all = (
-    with_row [] row,
+    with_row [] (made dialect (scan_of dialect (kept_text dialect bytes)).rows row),
     all,
-    rw (ended-is dialect bytes, records-scanned dialect (kept_text dialect bytes), ← read.scan.hand, is) refl,
+    rw (ended-is dialect bytes, all-scanned dialect (kept_text dialect bytes), ← read.scan.hand, is) refl,
   )
 
   -- above a fault no row is left

@@ -12,7 +12,7 @@ use Rattle.csv.specs.declared.parser.State.{State}
 use Rattle.csv.specs.declared.parser.State.TheVariants as st
 use Rattle.memchr.specs.Find.{IsFirstByte, is_byte, is_byte3, places_from}
 use Rattle.ruled_csv.specs.Inside.{Hand, Joins, Scan, calm_lines, fields_behind, hand_cut, is_bare, is_calm, scan_after, scan_from, state_of}
-use Rattle.ruled_csv.specs.Quotes.{has_quotes, is_closing, is_quoted}
+use Rattle.ruled_csv.specs.Quotes.{separator, has_quotes, is_closing, is_quoted}
 use Rattle.ruled_csv.specs.declared.scanner.Standing.{Standing}
 use Rattle.ruled_csv.specs.declared.scanner.Standing.TheVariants as at
 use Rattle.ruled_csv.specs.declared.dialect.Dialect.{Dialect}
@@ -103,25 +103,25 @@ bare-byte : (dialect : Dialect) (s : Scan) (byte : ℕ) (before : Standing) → 
     → scan_after dialect s byte ≡ record s { hand = cut-byte dialect s.hand byte }
 bare-byte dialect s byte at.Row calm is bare =
     let no = calm-parts byte calm in
-    elim (cases_Bool (byte == dialect.delimiter)) [
+    elim (cases_Bool (byte == separator dialect)) [
       | inl ends ↦ rw (is, no.quote, and-false (has_quotes dialect.rows.fields), no.return, no.feed, ends) (same-scan s (ended-field s.hand))
       | inr joins ↦ rw (is, no.quote, and-false (has_quotes dialect.rows.fields), no.return, no.feed, joins) (same-scan s (joined-field s.hand byte))
     ]
 bare-byte dialect s byte at.Return calm is bare =
     let no = calm-parts byte calm in
-    elim (cases_Bool (byte == dialect.delimiter)) [
+    elim (cases_Bool (byte == separator dialect)) [
       | inl ends ↦ rw (is, no.quote, and-false (has_quotes dialect.rows.fields), no.return, no.feed, ends) (same-scan s (ended-field s.hand))
       | inr joins ↦ rw (is, no.quote, and-false (has_quotes dialect.rows.fields), no.return, no.feed, joins) (same-scan s (joined-field s.hand byte))
     ]
 bare-byte dialect s byte at.Field calm is bare =
     let no = calm-parts byte calm in
-    elim (cases_Bool (byte == dialect.delimiter)) [
+    elim (cases_Bool (byte == separator dialect)) [
       | inl ends ↦ rw (is, no.quote, and-false (has_quotes dialect.rows.fields), no.return, no.feed, ends) (same-scan s (ended-field s.hand))
       | inr joins ↦ rw (is, no.quote, and-false (has_quotes dialect.rows.fields), no.return, no.feed, joins) (same-scan s (joined-field s.hand byte))
     ]
 bare-byte dialect s byte at.Plain calm is bare =
     let no = calm-parts byte calm in
-    elim (cases_Bool (byte == dialect.delimiter)) [
+    elim (cases_Bool (byte == separator dialect)) [
       | inl ends ↦ rw (is, no.return, no.feed, ends) (same-scan s (ended-field s.hand))
       | inr joins ↦ rw (is, no.return, no.feed, joins) (same-scan s (joined-field s.hand byte))
     ]
@@ -135,7 +135,7 @@ bare-run dialect s byte (next ∷ rest) before calm is bare =
     let parts = and_parts (is_calm byte) (list_all is_calm (next ∷ rest)) calm in
     let after : Scan = record s { hand = cut-byte dialect s.hand byte } in
     ap (λ (t : Scan). scan_from dialect t (next ∷ rest)) (bare-byte dialect s byte before parts.0 is bare)
-    ∙ elim (cases_Bool (byte == dialect.delimiter)) [
+    ∙ elim (cases_Bool (byte == separator dialect)) [
       | inl ends ↦ bare-run dialect after next rest at.Field parts.1 (ap field-or-plain ends) refl
       | inr joins ↦ bare-run dialect after next rest at.Plain parts.1 (ap field-or-plain joins) refl
     ] where
@@ -188,14 +188,14 @@ module _ (dialect : Dialect) (run : List ℕ) (i : ℕ) (within : i < length run
     next : fold (fields_behind dialect) first (take (i + 1) run) ≡ fields_behind dialect (fields, field ++ slice_range run start i) (get_or run i 0)
     next = fold-more (fields_behind dialect) first run i within ∙ ap (λ (parts : List (List ℕ) × List ℕ). fields_behind dialect parts (get_or run i 0)) cut
 
-    pub field-ends : get_or run i 0 ≡ dialect.delimiter → fold (fields_behind dialect) first (take (i + 1) run) ≡ (fields ++ (field ++ slice_range run start i) ∷ [], [] ++ slice_range run (i + 1) (i + 1))
+    pub field-ends : get_or run i 0 ≡ (separator dialect) → fold (fields_behind dialect) first (take (i + 1) run) ≡ (fields ++ (field ++ slice_range run start i) ∷ [], [] ++ slice_range run (i + 1) (i + 1))
     field-ends ends =
         let none : i + 1 - (i + 1) ≡ 0 = omega arith in
-        next ∙ rw (eq-eqb (get_or run i 0) dialect.delimiter ends, none) refl
+        next ∙ rw (eq-eqb (get_or run i 0) (separator dialect) ends, none) refl
 
-    pub field-joins : get_or run i 0 ≢ dialect.delimiter → fold (fields_behind dialect) first (take (i + 1) run) ≡ (fields, field ++ slice_range run start (i + 1))
+    pub field-joins : get_or run i 0 ≢ (separator dialect) → fold (fields_behind dialect) first (take (i + 1) run) ≡ (fields, field ++ slice_range run start (i + 1))
     field-joins joins =
-        next ∙ rw (ne_eqb (get_or run i 0) dialect.delimiter joins)
+        next ∙ rw (ne_eqb (get_or run i 0) (separator dialect) joins)
         (ap (λ (xs : List ℕ). (fields, xs)) (append_assoc field (slice_range run start i) (get_or run i 0 ∷ []) ∙ ap (λ (xs : List ℕ). field ++ xs) (sym (part-more run start i low within))))
 
 -- ---- a run that is cut at its delimiters
@@ -253,7 +253,7 @@ module _ (test : ℕ → Bool) (run : List ℕ) where
 
 -- bytes of which none is a delimiter join the field
 pub run-joins : (dialect : Dialect) (run : List ℕ) (first : List (List ℕ) × List ℕ) (start n : ℕ) (fields : List (List ℕ)) (field : List ℕ) → start + n ≤ length run
-    → ((k : ℕ) → start ≤ k → k < start + n → is_byte dialect.delimiter (get_or run k 0) ≡ false) → fold (fields_behind dialect) first (take start run) ≡ (fields, field)
+    → ((k : ℕ) → start ≤ k → k < start + n → is_byte (separator dialect) (get_or run k 0) ≡ false) → fold (fields_behind dialect) first (take start run) ≡ (fields, field)
     → fold (fields_behind dialect) first (take (start + n) run) ≡ (fields, field ++ slice_range run start (start + n))
 run-joins dialect run first start zero fields field within none cut =
     let at : start + 0 ≡ start = omega arith in
@@ -264,7 +264,7 @@ run-joins dialect run first start (suc n) fields field within none cut =
     let i : ℕ = start + n in
     let before = run-joins dialect run first start n fields field (omega (arith, within)) (λ k low high. none k low (omega (arith, high))) cut in
     let next : start + suc n ≡ i + 1 = omega arith in
-    let other : get_or run i 0 ≢ dialect.delimiter = λ is. absurd (false≢true (sym (none i (omega arith) (omega arith)) ∙ eq-eqb (get_or run i 0) dialect.delimiter is)) in
+    let other : get_or run i 0 ≢ (separator dialect) = λ is. absurd (false≢true (sym (none i (omega arith) (omega arith)) ∙ eq-eqb (get_or run i 0) (separator dialect) is)) in
     ap (λ (k : ℕ). fold (fields_behind dialect) first (take k run)) next
     ∙ field-joins dialect run i (omega (arith, within)) first start fields field (omega arith) before other
     ∙ ap (λ (k : ℕ). (fields, field ++ slice_range run start k)) (sym next)

@@ -1,8 +1,8 @@
 -- The rows of a scan over a text, and a byte order mark in front of one.
-use Rattle.std.proofs.Common.{◌≡◌, ◌≤◌, ◌∙◌, ℕ, zero, suc, ◌-◌, Bool, true, false, List, [], ◌∷◌, ◌++◌, length, length-append, take, Some, None, inl, inr, refl, sym, ap, append-nil, append_assoc, add-one, arith, ◌&&◌, nat_eq, drop}
-use Rattle.std.specs.Prelude.{◌==◌, if◌then◌else◌}
+use Rattle.std.proofs.Common.{◌≡◌, ◌≤◌, ◌∙◌, ℕ, zero, suc, ◌-◌, Bool, true, false, List, [], ◌∷◌, ◌++◌, length, length-append, take, Some, None, inl, inr, refl, sym, ap, append-nil, append_assoc, add-one, arith, ◌&&◌, nat_eq, drop, subst, eqb-true}
+use Rattle.std.specs.Prelude.{◌==◌, ◌||◌, ⊤, fold, if◌then◌else◌, Option}
 use Rattle.std.specs.List.{cons_option}
-use Rattle.std.proofs.lemmas.Bool.{cases_Bool, and_parts}
+use Rattle.std.proofs.lemmas.Bool.{cases_Bool, and_parts, false≢true, true≢false}
 use Rattle.std.proofs.lemmas.List.Sums.{fold-append}
 use Rattle.std.proofs.Math.Bool.{and-false}
 use Rattle.std.proofs.Math.Seq.{take-append_seam}
@@ -10,9 +10,14 @@ use Rattle.csv.specs.Machine.{ends_at_end, field_after, fields_after, is_end, ne
 use Rattle.csv.specs.Reading.{records, records_from, records_next, is_bom, strip_bom}
 use Rattle.csv.specs.declared.parser.State.{State}
 use Rattle.csv.specs.declared.parser.State.TheVariants as st
-use Rattle.ruled_csv.specs.Inside.{Scan, last_row, scan_after, scan_from, scan_of, scan_start, with_row}
-use Rattle.ruled_csv.specs.Quotes.{state_from, config_of, has_quotes}
-use Rattle.ruled_csv.specs.Rows.{ended_in}
+use Rattle.ruled_csv.specs.Inside.{Hand, Scan, last_row, line_of, made, row_left, row_made, scan_after, scan_from, scan_of, scan_start, with_row}
+use Rattle.ruled_csv.specs.Kept.{is_line_end, lines_behind, lines_of}
+use Rattle.ruled_csv.specs.Quotes.{are_words, separator, state_from, config_of, has_quotes}
+use Rattle.ruled_csv.specs.Rows.{ended_in, rows_in}
+use Rattle.ruled_csv.specs.Words.{columns_known, rows_of_lines, words_in}
+use Rattle.ruled_csv.proofs.CutWords.{letter-words, line-byte, line-tab, words-space}
+use Rattle.ruled_csv.specs.declared.dialect.Fields.{Fields}
+use Rattle.ruled_csv.specs.declared.dialect.Fields.TheVariants as variant
 use Rattle.ruled_csv.specs.declared.dialect.Dialect.{Dialect}
 use Rattle.std.specs.Cmp.Lexicographic.{pointwise}
 
@@ -54,28 +59,190 @@ records-are-rest dialect text =
 
 -- ---- those of a scan
 
--- a byte ends a row, or none
-byte-rows : (dialect : Dialect) (text : List ℕ) (s : State) (ends : Bool) (rows : List (List (List ℕ))) (fields : List (List ℕ)) (field : List ℕ)
-    → rows ++ (if ends then fields ∷ rest dialect s [] [] text else rest dialect s fields field text)
-    ≡ with_row rows (if ends then Some fields else None) ++ rest dialect s (if ends then [] else fields) (if ends then [] else field) text
-byte-rows dialect text s true rows fields field = sym (append_assoc rows (fields ∷ []) (rest dialect s [] [] text))
-byte-rows dialect text s false rows fields field = ap (λ (xs : List (List (List ℕ))). xs ++ rest dialect s fields field text) (sym (append-nil rows))
+module _ (dialect : Dialect) (plain : are_words dialect.rows.fields ≡ false) where
+  made-same : (above : List (List (List ℕ))) (row : Option (List (List ℕ))) → made dialect above row ≡ row
+  made-same above None = refl
+  made-same above (Some fields) = rw plain refl
 
-rest-scanned : (dialect : Dialect) (scan : Scan) (text : List ℕ) → scan.rows ++ rest dialect scan.hand.state scan.hand.fields scan.hand.field text
-    ≡ with_row (scan_from dialect scan text).rows (last_row (scan_from dialect scan text).hand)
-rest-scanned dialect scan [] = refl
-rest-scanned dialect scan (byte ∷ text) =
-    let done = step (config_of dialect) scan.hand.state byte in
-    byte-rows dialect text done.0 (is_end done.1) scan.rows (fields_after done.1 scan.hand.fields scan.hand.field) (field_after done.1 byte scan.hand.field)
-    ∙ rest-scanned dialect (scan_after dialect scan byte) text
+  -- a byte ends a row, or none
+  byte-rows : (text : List ℕ) (s : State) (ends : Bool) (rows : List (List (List ℕ))) (fields : List (List ℕ)) (field : List ℕ)
+      → rows ++ (if ends then fields ∷ rest dialect s [] [] text else rest dialect s fields field text)
+      ≡ with_row rows (made dialect rows (if ends then Some fields else None)) ++ rest dialect s (if ends then [] else fields) (if ends then [] else field) text
+  byte-rows text s true rows fields field =
+      sym (ap (λ (row : Option (List (List ℕ))). with_row rows row ++ rest dialect s [] [] text) (made-same rows (Some fields)) ∙ append_assoc rows (fields ∷ []) (rest dialect s [] [] text))
+  byte-rows text s false rows fields field = ap (λ (xs : List (List (List ℕ))). xs ++ rest dialect s fields field text) (sym (append-nil rows))
+
+  rest-scanned : (scan : Scan) (text : List ℕ) → scan.rows ++ rest dialect scan.hand.state scan.hand.fields scan.hand.field text
+      ≡ with_row (scan_from dialect scan text).rows (row_left dialect (scan_from dialect scan text))
+  rest-scanned scan [] = sym (ap (with_row scan.rows) (made-same scan.rows (last_row scan.hand)))
+  rest-scanned scan (byte ∷ text) =
+      let done = step (config_of dialect) scan.hand.state byte in
+      byte-rows text done.0 (is_end done.1) scan.rows (fields_after done.1 scan.hand.fields scan.hand.field) (field_after done.1 byte scan.hand.field)
+      ∙ rest-scanned (scan_after dialect scan byte) text
+
+-- ---- those of lines of words
+
+-- the fields and the field at hand, where no quote is open: none between rows
+abbrev Fits : State → List (List ℕ) → List ℕ → Type 0
+Fits st.StartRecord fields field = (fields ≡ []) × (field ≡ [])
+Fits st.StartField fields field = ⊤
+Fits st.InField fields field = ⊤
+Fits st.InQuoted fields field = ⊥
+Fits st.AfterQuote fields field = ⊥
+Fits st.InEscape fields field = ⊥
+Fits st.InComment fields field = ⊥
+Fits st.AfterCr fields field = (fields ≡ []) × (field ≡ [])
+
+-- the line at hand
+abbrev line_at : Hand → List ℕ
+line_at hand = line_of (hand.fields ++ hand.field ∷ [])
+
+abbrev FitsIn : Hand → Type 0
+FitsIn hand = Fits hand.state hand.fields hand.field
+
+no-quotes : (fields : Fields) → are_words fields ≡ true → has_quotes fields ≡ false
+no-quotes variant.Quoted is = absurd (false≢true is)
+no-quotes variant.Plain is = refl
+no-quotes variant.Words is = refl
+
+module _ (dialect : Dialect) (words : are_words dialect.rows.fields ≡ true) where
+  quotes : has_quotes dialect.rows.fields ≡ false
+  quotes = no-quotes dialect.rows.fields words
+
+  made-words : (above : List (List (List ℕ))) (fields : List (List ℕ)) → row_made dialect above fields ≡ words_in (columns_known above) (line_of fields)
+  made-words above fields = rw words refl
+
+  -- a byte that ends the line at hand, whose words are the row
+  abbrev Ends : State → List (List ℕ) → List ℕ → ℕ → Type 0
+  Ends s fields field byte =
+      let done = step (config_of dialect) s byte in
+      let fields_then = if is_end done.1 then [] else fields_after done.1 fields field in
+      let field_then = if is_end done.1 then [] else field_after done.1 byte field in
+      Fits done.0 fields_then field_then
+      × (line_of (fields_then ++ field_then ∷ []) ≡ [])
+      × ((above : List (List (List ℕ))) → words_in (columns_known above) (line_of (fields ++ field ∷ []) ++ byte ∷ []) ≡ made dialect above (if is_end done.1 then Some (fields_after done.1 fields field) else None))
+
+  ends-feed : (s : State) (fields : List (List ℕ)) (field : List ℕ) → Fits s fields field → Ends s fields field 10
+  ends-feed st.StartRecord fields field fits = rw (fits.0, fits.1) ((refl, refl), refl, λ above. refl)
+  ends-feed st.StartField fields field fits = rw (words, quotes) ((refl, refl), refl, λ above. words-space (columns_known above) (line_of (fields ++ field ∷ [])) 10 refl ∙ sym (made-words above (fields ++ field ∷ [])))
+  ends-feed st.InField fields field fits = rw words ((refl, refl), refl, λ above. words-space (columns_known above) (line_of (fields ++ field ∷ [])) 10 refl ∙ sym (made-words above (fields ++ field ∷ [])))
+  ends-feed st.AfterCr fields field fits = rw (fits.0, fits.1) ((refl, refl), refl, λ above. refl)
+  ends-feed st.InQuoted fields field fits = absurd fits
+  ends-feed st.AfterQuote fields field fits = absurd fits
+  ends-feed st.InEscape fields field fits = absurd fits
+  ends-feed st.InComment fields field fits = absurd fits
+
+  ends-return : (s : State) (fields : List (List ℕ)) (field : List ℕ) → Fits s fields field → Ends s fields field 13
+  ends-return st.StartRecord fields field fits = rw (fits.0, fits.1) ((refl, refl), refl, λ above. refl)
+  ends-return st.StartField fields field fits = rw (words, quotes) ((refl, refl), refl, λ above. words-space (columns_known above) (line_of (fields ++ field ∷ [])) 13 refl ∙ sym (made-words above (fields ++ field ∷ [])))
+  ends-return st.InField fields field fits = rw words ((refl, refl), refl, λ above. words-space (columns_known above) (line_of (fields ++ field ∷ [])) 13 refl ∙ sym (made-words above (fields ++ field ∷ [])))
+  ends-return st.AfterCr fields field fits = rw (fits.0, fits.1) ((refl, refl), refl, λ above. refl)
+  ends-return st.InQuoted fields field fits = absurd fits
+  ends-return st.AfterQuote fields field fits = absurd fits
+  ends-return st.InEscape fields field fits = absurd fits
+  ends-return st.InComment fields field fits = absurd fits
+
+  ends : (hand : Hand) (byte : ℕ) → FitsIn hand → is_line_end byte ≡ true → Ends hand.state hand.fields hand.field byte
+  ends hand byte fits is = go (byte == 10) (byte == 13) refl refl is where
+    go : (feed return : Bool) → (byte == 10) ≡ feed → (byte == 13) ≡ return → (feed || return) ≡ true → Ends hand.state hand.fields hand.field byte
+    go true return a b e = subst (Ends hand.state hand.fields hand.field) (sym (eqb-true byte 10 a)) (ends-feed hand.state hand.fields hand.field fits)
+    go false true a b e = subst (Ends hand.state hand.fields hand.field) (sym (eqb-true byte 13 b)) (ends-return hand.state hand.fields hand.field fits)
+    go false false a b e = absurd (false≢true e)
+
+  -- any other byte joins it
+  abbrev Goes : State → List (List ℕ) → List ℕ → ℕ → Type 0
+  Goes s fields field byte =
+      let done = step (config_of dialect) s byte in
+      let fields_then = if is_end done.1 then [] else fields_after done.1 fields field in
+      let field_then = if is_end done.1 then [] else field_after done.1 byte field in
+      Fits done.0 fields_then field_then
+      × (line_of (fields_then ++ field_then ∷ []) ≡ line_of (fields ++ field ∷ []) ++ byte ∷ [])
+      × (is_end done.1 ≡ false)
+
+  goes-tab : (s : State) (fields : List (List ℕ)) (field : List ℕ) → Fits s fields field → Goes s fields field 9
+  goes-tab st.StartRecord fields field fits = rw (words, quotes) (tt, line-tab fields field, refl)
+  goes-tab st.StartField fields field fits = rw (words, quotes) (tt, line-tab fields field, refl)
+  goes-tab st.InField fields field fits = rw words (tt, line-tab fields field, refl)
+  goes-tab st.AfterCr fields field fits = rw (words, quotes) (tt, line-tab fields field, refl)
+  goes-tab st.InQuoted fields field fits = absurd fits
+  goes-tab st.AfterQuote fields field fits = absurd fits
+  goes-tab st.InEscape fields field fits = absurd fits
+  goes-tab st.InComment fields field fits = absurd fits
+
+  goes-byte : (s : State) (fields : List (List ℕ)) (field : List ℕ) (byte : ℕ) → Fits s fields field → (byte == 10) ≡ false → (byte == 13) ≡ false → (byte == 9) ≡ false → Goes s fields field byte
+  goes-byte st.StartRecord fields field byte fits a b c = rw (words, quotes, a, b, c) (tt, line-byte fields field byte, refl)
+  goes-byte st.StartField fields field byte fits a b c = rw (words, quotes, a, b, c) (tt, line-byte fields field byte, refl)
+  goes-byte st.InField fields field byte fits a b c = rw (words, a, b, c) (tt, line-byte fields field byte, refl)
+  goes-byte st.AfterCr fields field byte fits a b c = rw (words, quotes, a, b, c) (tt, line-byte fields field byte, refl)
+  goes-byte st.InQuoted fields field byte fits a b c = absurd fits
+  goes-byte st.AfterQuote fields field byte fits a b c = absurd fits
+  goes-byte st.InEscape fields field byte fits a b c = absurd fits
+  goes-byte st.InComment fields field byte fits a b c = absurd fits
+
+  goes : (hand : Hand) (byte : ℕ) → FitsIn hand → is_line_end byte ≡ false → Goes hand.state hand.fields hand.field byte
+  goes hand byte fits is = go (byte == 10) (byte == 13) (byte == 9) refl refl refl is where
+    go : (feed return tab : Bool) → (byte == 10) ≡ feed → (byte == 13) ≡ return → (byte == 9) ≡ tab → (feed || return) ≡ false → Goes hand.state hand.fields hand.field byte
+    go true return tab a b c e = absurd (true≢false e)
+    go false true tab a b c e = absurd (true≢false e)
+    go false false true a b c e = subst (Goes hand.state hand.fields hand.field) (sym (eqb-true byte 9 c)) (goes-tab hand.state hand.fields hand.field fits)
+    go false false false a b c e = goes-byte hand.state hand.fields hand.field byte fits a b c
+
+  -- no byte is left
+  line-left : (s : State) (fields : List (List ℕ)) (field : List ℕ) (above : List (List (List ℕ))) → Fits s fields field
+      → words_in (columns_known above) (line_of (fields ++ field ∷ [])) ≡ made dialect above (if ends_at_end s then Some (fields ++ field ∷ []) else None)
+  line-left st.StartRecord fields field above fits = rw (fits.0, fits.1) refl
+  line-left st.StartField fields field above fits = sym (made-words above (fields ++ field ∷ []))
+  line-left st.InField fields field above fits = sym (made-words above (fields ++ field ∷ []))
+  line-left st.AfterCr fields field above fits = rw (fits.0, fits.1) refl
+  line-left st.InQuoted fields field above fits = absurd fits
+  line-left st.AfterQuote fields field above fits = absurd fits
+  line-left st.InEscape fields field above fits = absurd fits
+  line-left st.InComment fields field above fits = absurd fits
+
+  -- the rows of lines below others
+  abbrev below : List (List (List ℕ)) → List (List ℕ) → List (List (List ℕ))
+  below above lines = fold (λ above line. with_row above (words_in (columns_known above) line)) above lines
+
+  -- no row ends with a byte that ends no line
+  still : (scan : Scan) (byte : ℕ) → is_end (step (config_of dialect) scan.hand.state byte).1 ≡ false → scan.rows ≡ (scan_after dialect scan byte).rows
+  still scan byte on = rw on (sym (append-nil scan.rows))
+
+  lines-scanned : (scan : Scan) (text : List ℕ) → FitsIn scan.hand
+      → below scan.rows (lines_behind (line_at scan.hand) text) ≡ with_row (scan_from dialect scan text).rows (row_left dialect (scan_from dialect scan text))
+  lines-scanned scan [] fits = ap (with_row scan.rows) (line-left scan.hand.state scan.hand.fields scan.hand.field scan.rows fits)
+  lines-scanned scan (byte ∷ text) fits =
+      let line = line_at scan.hand in
+      let after = scan_after dialect scan byte in
+      elim (cases_Bool (is_line_end byte)) [
+        | inl is ↦
+            let (fits_on, none, row) = ends scan.hand byte fits is in
+            rw is
+            (ap (λ (row : Option (List (List ℕ))). below (with_row scan.rows row) (lines_behind [] text)) (row scan.rows)
+            ∙ ap (λ (line : List ℕ). below after.rows (lines_behind line text)) (sym none)
+            ∙ lines-scanned after text fits_on)
+        | inr is ↦
+            let (fits_on, more, on) = goes scan.hand byte fits is in
+            let same : below scan.rows (lines_behind (line_at after.hand) text) ≡ below after.rows (lines_behind (line_at after.hand) text) = ap (λ (rows : List (List (List ℕ))). below rows (lines_behind (line_at after.hand) text)) (still scan byte on) in
+            rw is (ap (λ (line : List ℕ). below scan.rows (lines_behind line text)) (sym more) ∙ same ∙ lines-scanned after text fits_on)
+      ]
+
+  fits-scanned : (scan : Scan) (text : List ℕ) → FitsIn scan.hand → FitsIn (scan_from dialect scan text).hand
+  fits-scanned scan [] fits = fits
+  fits-scanned scan (byte ∷ text) fits = elim (cases_Bool (is_line_end byte)) [
+    | inl is ↦ fits-scanned (scan_after dialect scan byte) text (ends scan.hand byte fits is).0
+    | inr is ↦ fits-scanned (scan_after dialect scan byte) text (goes scan.hand byte fits is).0
+  ]
 
 -- all rows of a text: those that ended, and the one at hand
-pub records-scanned : (dialect : Dialect) (text : List ℕ) → records (config_of dialect) text ≡ with_row (scan_of dialect text).rows (last_row (scan_of dialect text).hand)
-records-scanned dialect text = records-are-rest dialect text ∙ rest-scanned dialect scan_start text
+pub all-scanned : (dialect : Dialect) (text : List ℕ) → rows_in dialect text ≡ with_row (scan_of dialect text).rows (row_left dialect (scan_of dialect text))
+all-scanned dialect text = go (are_words dialect.rows.fields) refl where
+  go : (words : Bool) → are_words dialect.rows.fields ≡ words → (if words then rows_of_lines (lines_of text) else records (config_of dialect) text) ≡ with_row (scan_of dialect text).rows (row_left dialect (scan_of dialect text))
+  go true is = lines-scanned dialect is scan_start text (refl, refl)
+  go false is = records-are-rest dialect text ∙ rest-scanned dialect is scan_start text
 
 -- a letter ends no row, and belongs to one
 letter-joins : (dialect : Dialect) (s : State) → (is_end (step (config_of dialect) s 120).1 ≡ false) × (ends_at_end (step (config_of dialect) s 120).0 ≡ true)
-letter-joins dialect s = elim (cases_Bool (120 == dialect.delimiter)) [
+letter-joins dialect s = elim (cases_Bool (120 == separator dialect)) [
   | inl is ↦ go s is
   | inr other ↦ go2 s other
 ] where
@@ -85,7 +252,7 @@ letter-joins dialect s = elim (cases_Bool (120 == dialect.delimiter)) [
   same : (has_quotes dialect.rows.fields && true && false) ≡ false
   same = and-false (has_quotes dialect.rows.fields && true)
 
-  go : (s : State) → (120 == dialect.delimiter) ≡ true → (is_end (step (config_of dialect) s 120).1 ≡ false) × (ends_at_end (step (config_of dialect) s 120).0 ≡ true)
+  go : (s : State) → (120 == separator dialect) ≡ true → (is_end (step (config_of dialect) s 120).1 ≡ false) × (ends_at_end (step (config_of dialect) s 120).0 ≡ true)
   go st.StartRecord is = rw (none, is) (refl, refl)
   go st.StartField is = rw (none, is) (refl, refl)
   go st.InField is = rw is (refl, refl)
@@ -95,7 +262,7 @@ letter-joins dialect s = elim (cases_Bool (120 == dialect.delimiter)) [
   go st.InComment is = (refl, refl)
   go st.AfterCr is = rw (none, is) (refl, refl)
 
-  go2 : (s : State) → (120 == dialect.delimiter) ≡ false → (is_end (step (config_of dialect) s 120).1 ≡ false) × (ends_at_end (step (config_of dialect) s 120).0 ≡ true)
+  go2 : (s : State) → (120 == separator dialect) ≡ false → (is_end (step (config_of dialect) s 120).1 ≡ false) × (ends_at_end (step (config_of dialect) s 120).0 ≡ true)
   go2 st.StartRecord is = rw (none, is) (refl, refl)
   go2 st.StartField is = rw (none, is) (refl, refl)
   go2 st.InField is = rw is (refl, refl)
@@ -110,15 +277,32 @@ all-but-last xs x =
     let long : length (xs ++ x ∷ []) - 1 ≡ length xs = omega (arith, length-append xs (x ∷ [])) in
     rw long (take-append_seam xs (x ∷ []))
 
+-- with it behind a text there is a row at hand
+letter-row : (dialect : Dialect) (text : List ℕ) → (row : List (List ℕ)) × (row_left dialect (scan_after dialect (scan_of dialect text) 120) ≡ Some row)
+letter-row dialect text =
+    let s = scan_of dialect text in
+    let letter = letter-joins dialect s.hand.state in
+    let after = scan_after dialect s 120 in
+    let left : row_left dialect after ≡ row_made dialect after.rows (after.hand.fields ++ after.hand.field ∷ []) = rw letter.1 refl in
+    elim (cases_Bool (are_words dialect.rows.fields)) [
+      | inl words ↦
+          let more = (goes dialect words s.hand 120 (fits-scanned dialect words scan_start text (refl, refl)) refl).1 in
+          let (row, is) = letter-words (columns_known after.rows) (line_at s.hand) in
+          (row, left ∙ made-words dialect words after.rows (after.hand.fields ++ after.hand.field ∷ []) ∙ ap (words_in (columns_known after.rows)) more ∙ is)
+      | inr plain ↦ (after.hand.fields ++ after.hand.field ∷ [], left ∙ made-same dialect plain after.rows (Some (after.hand.fields ++ after.hand.field ∷ [])))
+    ]
+
 -- the rows that end in a text are those that a scan has found
 pub ended-scanned : (dialect : Dialect) (text : List ℕ) → ended_in dialect text ≡ (scan_of dialect text).rows
 ended-scanned dialect text =
     let s = scan_of dialect text in
+    let after = scan_after dialect s 120 in
     let letter = letter-joins dialect s.hand.state in
+    let (row, is) = letter-row dialect text in
+    let still : after.rows ≡ s.rows = rw letter.0 (append-nil s.rows) in
     let behind = fold-append (scan_after dialect) scan_start text (120 ∷ []) in
-    let all = records-scanned dialect (text ++ 120 ∷ []) ∙ ap (λ (t : Scan). with_row t.rows (last_row t.hand)) behind in
-    let rows = rw (letter.0, letter.1, append-nil s.rows) at all in
-    ap (λ (rs : List (List (List ℕ))). take (length rs - 1) rs) rows ∙ all-but-last s.rows _
+    let all = all-scanned dialect (text ++ 120 ∷ []) ∙ ap (λ (t : Scan). with_row t.rows (row_left dialect t)) behind ∙ ap (with_row after.rows) is ∙ ap (λ (rows : List (List (List ℕ))). rows ++ row ∷ []) still in
+    ap (λ (rs : List (List (List ℕ))). take (length rs - 1) rs) all ∙ all-but-last s.rows row
 
 -- ---- what else it has
 

@@ -8,17 +8,16 @@ use Rattle.std.proofs.lemmas.Bool.{cases_Bool, and_parts}
 use Rattle.std.proofs.lemmas.List.{take-append-drop}
 use Rattle.std.proofs.lemmas.List.Sums.{take_while-cons}
 use Rattle.std.proofs.Math.Seq.{take-append-add, take-append_seam}
-use Rattle.csv.specs.Reading.{records}
 use Rattle.ruled_csv.specs.Faults.{first_fault, has_length, is_sound, quoted_rows, row_fault, rows_fault, sound_rows, sound_rows_in, text_fault, number_of}
 use Rattle.ruled_csv.specs.Inside as scan
-use Rattle.ruled_csv.specs.Inside.{Scan, fault_below, is_behind, last_row, row_ended, scan_after, scan_from, scan_of, scan_start, with_row}
+use Rattle.ruled_csv.specs.Inside.{Scan, fault_below, is_behind, row_at, row_left, scan_after, scan_from, scan_of, scan_start, with_row}
 use Rattle.ruled_csv.specs.Kept.{kept_text}
 use Rattle.ruled_csv.specs.Lines.{line_behind}
-use Rattle.ruled_csv.specs.Quotes.{first_behind_quote, quote_fault, config_of}
-use Rattle.ruled_csv.specs.Rows.{columns_of, rows_of}
+use Rattle.ruled_csv.specs.Quotes.{first_behind_quote, quote_fault}
+use Rattle.ruled_csv.specs.Rows.{columns_of, rows_in, rows_of}
 use Rattle.ruled_csv.specs.declared.fault.RowsFault.{RowsFault}
 use Rattle.ruled_csv.specs.declared.fault.RowsFault.TheVariants.{BehindQuote, Encoding}
-use Rattle.ruled_csv.proofs.Scans.{ended-scanned, records-scanned, scan-append}
+use Rattle.ruled_csv.proofs.Scans.{ended-scanned, all-scanned, scan-append}
 use Rattle.ruled_csv.proofs.TextFaults.{by-bytes, clean, fault-last, fault-of, first-more, first-next, open-is, place-of, quoted-by}
 use Rattle.ruled_csv.specs.declared.dialect.Dialect.{Dialect}
 use Rattle.std.proofs.lemmas.Str.{IsUtf8-from_is_utf8, is_utf8-from_IsUtf8}
@@ -87,14 +86,14 @@ bad-next dialect rows more row fault none bad =
 
 -- the row at hand behind a text
 abbrev last-of : Dialect → List ℕ → List Row
-last-of dialect text = cons_option (last_row (scan_of dialect text).hand) []
+last-of dialect text = cons_option (row_left dialect (scan_of dialect text)) []
 
 -- the rows that a scan has found stay
 rows-grow : (dialect : Dialect) (s : Scan) (text : List ℕ) → (more : List Row) × ((scan_from dialect s text).rows ≡ s.rows ++ more)
 rows-grow dialect s [] = ([], sym (append-nil s.rows))
 rows-grow dialect s (byte ∷ text) =
     let (more, is) = rows-grow dialect (scan_after dialect s byte) text in
-    let row = cons_option (row_ended dialect s.hand byte) [] in
+    let row = cons_option (row_at dialect s byte) [] in
     (row ++ more, is ∙ append_assoc s.rows row more)
 
 rows-behind : (dialect : Dialect) (text behind : List ℕ) → (more : List Row) × ((scan_of dialect (text ++ behind)).rows ≡ (scan_of dialect text).rows ++ more)
@@ -138,7 +137,7 @@ quoted-grow dialect text behind none = go (first_behind_quote dialect (text ++ b
   go place None at is =
       let (more, rows) = rows-behind dialect text behind in
       let last = last-of dialect (text ++ behind) in
-      (more ++ last, quoted-by dialect (text ++ behind) place None at is ∙ records-scanned dialect (text ++ behind) ∙ ap (λ (rs : List Row). rs ++ last) rows ∙ append_assoc (scan_of dialect text).rows more last)
+      (more ++ last, quoted-by dialect (text ++ behind) place None at is ∙ all-scanned dialect (text ++ behind) ∙ ap (λ (rs : List Row). rs ++ last) rows ∙ append_assoc (scan_of dialect text).rows more last)
   go None (Some fault) at is =
       let (more, rows) = rows-behind dialect text behind in
       (more, quoted-by dialect (text ++ behind) None (Some fault) at is ∙ ended-scanned dialect (text ++ behind) ∙ rows)
@@ -176,7 +175,7 @@ module _ (dialect : Dialect) (text : List ℕ) (byte : ℕ) (behind : List ℕ) 
       ap (sound-of dialect) rows ∙ clean-all dialect now.rows sound
 
   -- a bad row
-  stops-row : (row : Option Row) (fault : RowsFault) → is_behind now.hand.state (scan_after dialect now byte).hand.state ≡ false → row_ended dialect now.hand byte ≡ row → fault_below dialect now.rows row ≡ Some fault → sound_rows_in dialect whole ≡ now.rows
+  stops-row : (row : Option Row) (fault : RowsFault) → is_behind now.hand.state (scan_after dialect now byte).hand.state ≡ false → row_at dialect now byte ≡ row → fault_below dialect now.rows row ≡ Some fault → sound_rows_in dialect whole ≡ now.rows
   stops-row None fault none ends bad = let f = bad in cc
   stops-row (Some row) fault none ends bad =
       let (first, sound) = clean dialect text right in
@@ -187,7 +186,7 @@ module _ (dialect : Dialect) (text : List ℕ) (byte : ℕ) (behind : List ℕ) 
   pub stops-at : (fault : RowsFault) → (scan_after dialect now byte).fault ≡ Some fault → sound_rows_in dialect whole ≡ now.rows
   stops-at fault found = elim (cases_Bool (is_behind now.hand.state (scan_after dialect now byte).hand.state)) [
     | inl is-true ↦ stops-behind is-true
-    | inr is-false ↦ stops-row (row_ended dialect now.hand byte) fault is-false refl (rw (right, is-false) at found)
+    | inr is-false ↦ stops-row (row_at dialect now byte) fault is-false refl (rw (right, is-false) at found)
   ]
 
 -- or the end does
@@ -195,12 +194,12 @@ module _ (dialect : Dialect) (text : List ℕ) (right : (scan_of dialect text).f
   abbrev ended : List Row
   ended = (scan_of dialect text).rows
 
-  stops-end : (quote : Option RowsFault) (row : Option Row) (fault : RowsFault) → quote_fault dialect text ≡ quote → last_row (scan_of dialect text).hand ≡ row → option_or quote (fault_below dialect ended row) ≡ Some fault
+  stops-end : (quote : Option RowsFault) (row : Option Row) (fault : RowsFault) → quote_fault dialect text ≡ quote → row_left dialect (scan_of dialect text) ≡ row → option_or quote (fault_below dialect ended row) ≡ Some fault
       → sound_rows_in dialect text ≡ ended
   stops-end None None fault is last e = let f = e in cc
   stops-end None (Some row) fault is last e =
       let (none, sound) = clean dialect text right in
-      let all = quoted-by dialect text None None none is ∙ records-scanned dialect text ∙ ap (with_row ended) last in
+      let all = quoted-by dialect text None None none is ∙ all-scanned dialect text ∙ ap (with_row ended) last in
       ap (sound-of dialect) (all ∙ sym (append-nil (ended ++ row ∷ []))) ∙ bad-next dialect ended [] row fault sound e
   stops-end (Some q) row fault is last e =
       let (none, sound) = clean dialect text right in
@@ -209,7 +208,7 @@ module _ (dialect : Dialect) (text : List ℕ) (right : (scan_of dialect text).f
   pub stops-last : (fault : RowsFault) → text_fault dialect text ≡ Some fault → sound_rows_in dialect text ≡ ended
   stops-last fault wrong =
       let s = scan_of dialect text in
-      stops-end (scan.open_fault s.hand) (last_row s.hand) fault (rw (clean dialect text right).0 (open-is dialect text)) refl (sym (fault-last dialect text right) ∙ wrong)
+      stops-end (scan.open_fault s.hand) (row_left dialect s) fault (rw (clean dialect text right).0 (open-is dialect text)) refl (sym (fault-last dialect text right) ∙ wrong)
 
 -- ---- bytes
 
@@ -233,17 +232,17 @@ take_while-first {X} p (x ∷ xs) = elim (cases_Bool (p x)) [
       (x ∷ xs, ap (λ (ys : List X). ys ++ (x ∷ xs)) (sym front))
 ]
 
-quoted-among : (dialect : Dialect) (text : List ℕ) → (more : List Row) × (records (config_of dialect) text ≡ quoted_rows dialect text ++ more)
+quoted-among : (dialect : Dialect) (text : List ℕ) → (more : List Row) × (rows_in dialect text ≡ quoted_rows dialect text ++ more)
 quoted-among dialect text = go (first_behind_quote dialect text) (quote_fault dialect text) refl refl where
-  go : (place : Option ℕ) (quote : Option RowsFault) → first_behind_quote dialect text ≡ place → quote_fault dialect text ≡ quote → (more : List Row) × (records (config_of dialect) text ≡ quoted_rows dialect text ++ more)
+  go : (place : Option ℕ) (quote : Option RowsFault) → first_behind_quote dialect text ≡ place → quote_fault dialect text ≡ quote → (more : List Row) × (rows_in dialect text ≡ quoted_rows dialect text ++ more)
   go place None at is = ([], sym (quoted-by dialect text place None at is) ∙ sym (append-nil (quoted_rows dialect text)))
   go None (Some fault) at is =
-      (last-of dialect text, records-scanned dialect text ∙ ap (λ (rs : List Row). rs ++ last-of dialect text) (sym (quoted-by dialect text None (Some fault) at is ∙ ended-scanned dialect text)))
+      (last-of dialect text, all-scanned dialect text ∙ ap (λ (rs : List Row). rs ++ last-of dialect text) (sym (quoted-by dialect text None (Some fault) at is ∙ ended-scanned dialect text)))
   go (Some n) (Some fault) at is =
       let (more, rows) = rows-behind dialect (take n text) (drop n text) in
       let front = quoted-by dialect text (Some n) (Some fault) at is ∙ ended-scanned dialect (take n text) in
       let all = ap (λ (xs : List ℕ). (scan_of dialect xs).rows) (sym (take-append-drop n text)) ∙ rows ∙ ap (λ (rs : List Row). rs ++ more) (sym front) in
-      (more ++ last-of dialect text, records-scanned dialect text ∙ ap (λ (rs : List Row). rs ++ last-of dialect text) all ∙ append_assoc (quoted_rows dialect text) more (last-of dialect text))
+      (more ++ last-of dialect text, all-scanned dialect text ∙ ap (λ (rs : List Row). rs ++ last-of dialect text) all ∙ append_assoc (quoted_rows dialect text) more (last-of dialect text))
 
 -- and the sound ones are always the first rows of all
 pub sound-first : (dialect : Dialect) (bytes : List ℕ) → (more : List Row) × (rows_of dialect bytes ≡ sound_rows dialect bytes ++ more)

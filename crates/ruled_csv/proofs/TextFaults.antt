@@ -8,18 +8,17 @@ use Rattle.std.proofs.lemmas.List.{take-append-le}
 use Rattle.std.proofs.lemmas.List.Folds.{find-append}
 use Rattle.std.proofs.lemmas.List.Sums.{sum_by-append}
 use Rattle.std.proofs.Math.Seq.{take-append_seam}
-use Rattle.csv.specs.Reading.{records}
 use Rattle.csv.specs.declared.parser.State.{State}
 use Rattle.ruled_csv.specs.Faults.{first_fault, quoted_rows, row_fault, text_fault, up_to}
 use Rattle.ruled_csv.specs.Inside as scan
-use Rattle.ruled_csv.specs.Inside.{Hand, Scan, behind_fault, fault_below, is_bare, is_behind, last_row, lines_after, lines_start, row_ended, scan_after, scan_from, scan_of, scan_start, with_row}
+use Rattle.ruled_csv.specs.Inside.{Hand, Scan, behind_fault, fault_below, is_bare, is_behind, lines_after, lines_start, row_at, row_left, scan_after, scan_from, scan_of, scan_start, with_row}
 use Rattle.ruled_csv.specs.Lines.{ends_line, line_behind}
-use Rattle.ruled_csv.specs.Quotes.{first_behind_quote, is_behind_quote, is_closing, is_quoted, open_fault, quote_at, quote_fault, state_behind, config_of}
-use Rattle.ruled_csv.specs.Rows.{columns_of, ended_in}
+use Rattle.ruled_csv.specs.Quotes.{first_behind_quote, is_behind_quote, is_closing, is_quoted, open_fault, quote_at, quote_fault, state_behind}
+use Rattle.ruled_csv.specs.Rows.{columns_of, ended_in, rows_in}
 use Rattle.ruled_csv.specs.declared.fault.RowsFault.{RowsFault}
 use Rattle.ruled_csv.specs.declared.fault.RowsFault.TheVariants.{OpenQuote, BehindQuote}
 use Rattle.ruled_csv.specs.declared.lines.Lines.{Lines}
-use Rattle.ruled_csv.proofs.Scans.{ended-scanned, records-scanned, scan-append, state-scanned}
+use Rattle.ruled_csv.proofs.Scans.{ended-scanned, all-scanned, scan-append, state-scanned}
 use Rattle.ruled_csv.specs.declared.dialect.Dialect.{Dialect}
 
 -- ---- byte by byte
@@ -181,13 +180,13 @@ module _ (dialect : Dialect) (text : List ℕ) (byte : ℕ) (holds : (scan_of di
 
   -- the byte is text behind a quote, or not
   decide : (here : Bool)
-      → option_or (fault-of dialect (scan_of dialect text).rows) (option_or (if here then Some (BehindQuote (scan_of dialect text).hand.lines.line) else None) (fault_below dialect (scan_of dialect text).rows (row_ended dialect (scan_of dialect text).hand byte)))
+      → option_or (fault-of dialect (scan_of dialect text).rows) (option_or (if here then Some (BehindQuote (scan_of dialect text).hand.lines.line) else None) (fault_below dialect (scan_of dialect text).rows (row_at dialect (scan_of dialect text) byte)))
       ≡ found-at dialect (text ++ byte ∷ []) (if here then Some (length text) else None)
   decide true =
       ap (λ (line : ℕ). option_or (fault-of dialect (scan_of dialect text).rows) (Some (BehindQuote line))) (line-is dialect text)
       ∙ sym (ap (λ (xs : List ℕ). option_or (fault-of dialect (scan_of dialect xs).rows) (Some (BehindQuote (line_behind xs)))) (take-append_seam text (byte ∷ [])))
   decide false =
-      sym (fault-with dialect (scan_of dialect text).rows (row_ended dialect (scan_of dialect text).hand byte))
+      sym (fault-with dialect (scan_of dialect text).rows (row_at dialect (scan_of dialect text) byte))
       ∙ ap (λ (t : Scan). fault-of dialect t.rows) (sym (scan-more dialect text byte))
       ∙ sym (or-none (fault-of dialect (scan_of dialect (text ++ byte ∷ [])).rows))
 
@@ -195,7 +194,7 @@ module _ (dialect : Dialect) (text : List ℕ) (byte : ℕ) (holds : (scan_of di
   found-next none =
       let all = text ++ byte ∷ [] in
       let s = scan_of dialect text in
-      let row = row_ended dialect s.hand byte in
+      let row = row_at dialect s byte in
       let after = (scan_after dialect s byte).hand.state in
       let before : s.fault ≡ fault-of dialect s.rows = (rw none at holds) ∙ or-none (fault-of dialect s.rows) in
       ap (λ (t : Scan). t.fault) (scan-more dialect text byte)
@@ -262,11 +261,11 @@ opened-is dialect = by-bytes (Opened dialect) (λ none. absurd (true≢false non
 -- ---- the faults of bytes
 
 pub quoted-by : (dialect : Dialect) (text : List ℕ) (place : Option ℕ) (quote : Option RowsFault) → first_behind_quote dialect text ≡ place → quote_fault dialect text ≡ quote
-    → quoted_rows dialect text ≡ (if is_none quote then records (config_of dialect) text else ended_in dialect (up_to place text))
+    → quoted_rows dialect text ≡ (if is_none quote then rows_in dialect text else ended_in dialect (up_to place text))
 quoted-by dialect text place quote at is = rw (is, at) refl
 
 text-fault-by : (dialect : Dialect) (text : List ℕ) (place : Option ℕ) (quote : Option RowsFault) → first_behind_quote dialect text ≡ place → quote_fault dialect text ≡ quote
-    → text_fault dialect text ≡ option_or (fault-of dialect (if is_none quote then records (config_of dialect) text else ended_in dialect (up_to place text))) quote
+    → text_fault dialect text ≡ option_or (fault-of dialect (if is_none quote then rows_in dialect text else ended_in dialect (up_to place text))) quote
 text-fault-by dialect text place quote at is = ap (λ (rows : List (List (List ℕ))). option_or (fault-of dialect rows) (quote_fault dialect text)) (quoted-by dialect text place quote at is) ∙ ap (option_or _) is
 
 pub open-is : (dialect : Dialect) (text : List ℕ) → open_fault dialect text ≡ scan.open_fault (scan_of dialect text).hand
@@ -290,17 +289,17 @@ clean dialect text right = go (first_behind_quote dialect text) refl where
 
 -- and what is wrong in the end is wrong with the row at hand
 pub fault-last : (dialect : Dialect) (text : List ℕ) → (scan_of dialect text).fault ≡ None
-    → text_fault dialect text ≡ option_or (scan.open_fault (scan_of dialect text).hand) (fault_below dialect (scan_of dialect text).rows (last_row (scan_of dialect text).hand))
+    → text_fault dialect text ≡ option_or (scan.open_fault (scan_of dialect text).hand) (fault_below dialect (scan_of dialect text).rows (row_left dialect (scan_of dialect text)))
 fault-last dialect text right =
     let (none, sound) = clean dialect text right in
     last none sound (scan.open_fault (scan_of dialect text).hand) (rw none (open-is dialect text)) where
       last : first_behind_quote dialect text ≡ None → fault-of dialect (scan_of dialect text).rows ≡ None → (quote : Option RowsFault) → quote_fault dialect text ≡ quote
-          → text_fault dialect text ≡ option_or quote (fault_below dialect (scan_of dialect text).rows (last_row (scan_of dialect text).hand))
+          → text_fault dialect text ≡ option_or quote (fault_below dialect (scan_of dialect text).rows (row_left dialect (scan_of dialect text)))
       last none sound None is =
           text-fault-by dialect text None None none is
           ∙ or-none _
-          ∙ ap (fault-of dialect) (records-scanned dialect text)
-          ∙ fault-with dialect (scan_of dialect text).rows (last_row (scan_of dialect text).hand)
+          ∙ ap (fault-of dialect) (all-scanned dialect text)
+          ∙ fault-with dialect (scan_of dialect text).rows (row_left dialect (scan_of dialect text))
           ∙ rw sound refl
       last none sound (Some fault) is =
           text-fault-by dialect text None (Some fault) none is
@@ -313,8 +312,8 @@ fault-found dialect text fault found = go (first_behind_quote dialect text) refl
   late : (quote : Option RowsFault) → first_behind_quote dialect text ≡ None → fault-of dialect (scan_of dialect text).rows ≡ Some fault → quote_fault dialect text ≡ quote → text_fault dialect text ≡ Some fault
   late None none bad is =
       text-fault-by dialect text None None none is
-      ∙ ap (λ (rows : List (List (List ℕ))). option_or (fault-of dialect rows) None) (records-scanned dialect text)
-      ∙ ap (λ (f : Option RowsFault). option_or f None) (fault-with dialect (scan_of dialect text).rows (last_row (scan_of dialect text).hand))
+      ∙ ap (λ (rows : List (List (List ℕ))). option_or (fault-of dialect rows) None) (all-scanned dialect text)
+      ∙ ap (λ (f : Option RowsFault). option_or f None) (fault-with dialect (scan_of dialect text).rows (row_left dialect (scan_of dialect text)))
       ∙ rw bad refl
   late (Some other) none bad is =
       text-fault-by dialect text None (Some other) none is

@@ -3,10 +3,9 @@ use Rattle.std.specs.Prelude.{◌≡◌, ◌≢◌, ℕ, ◌+◌, ◌-◌, ◌^�
 use Rattle.std.specs.List.{list_all, take_while}
 use Rattle.std.specs.Option.{option_or}
 use Rattle.std.specs.Str.{is_utf8}
-use Rattle.csv.specs.Reading.{records}
 use Rattle.ruled_csv.specs.Kept.{kept_text}
-use Rattle.ruled_csv.specs.Quotes.{first_behind_quote, quote_fault, config_of}
-use Rattle.ruled_csv.specs.Rows.{columns_of, ended_in}
+use Rattle.ruled_csv.specs.Quotes.{first_behind_quote, quote_fault}
+use Rattle.ruled_csv.specs.Rows.{columns_of, ended_in, rows_in}
 use Rattle.ruled_csv.specs.declared.fault.RowsFault.{RowsFault}
 use Rattle.ruled_csv.specs.declared.fault.RowsFault.TheVariants.{OpenQuote, BehindQuote, Length, Encoding, Memory}
 use Rattle.ruled_csv.specs.declared.dialect.Dialect.{Dialect}
@@ -57,7 +56,7 @@ module _ (dialect : Dialect) (text : List ℕ) where
   -- the rows whose quotes stand where they may: all, or those that end above the quote that doesn't
   abbrev pub quoted_rows : List (List (List ℕ))
   quoted_rows =
-      if is_none (quote_fault dialect text) then records (config_of dialect) text
+      if is_none (quote_fault dialect text) then rows_in dialect text
       else ended_in dialect (up_to (first_behind_quote dialect text) text)
 
   -- what is wrong with a text: the first bad row of these, or else the quote

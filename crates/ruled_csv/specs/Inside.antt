@@ -1,6 +1,6 @@
 -- What only bodies and their proofs need. Of it contracts of calls from outside have only what a reader holds (`HasRead`).
 use Rattle.std.specs.Prelude.{◌≡◌, ℕ, ◌+◌, ◌-◌, ◌^◌, min, nat_le, ◌==◌, ◌&&◌, ◌||◌, not, Bool, true, false, List, [], ◌∷◌, ◌++◌, fold, length, Option, Some, None, if◌then◌else◌}
-use Rattle.std.specs.List.{cons_option}
+use Rattle.std.specs.List.{cons_option, join_by}
 use Rattle.std.specs.Option.{option_or}
 use Rattle.csv.specs.Machine.{ends_at_end, field_after, fields_after, is_end, step}
 use Rattle.csv.specs.Records.{fields_of, partial_of}
@@ -12,8 +12,9 @@ use Rattle.memchr.specs.Find.{is_byte3}
 use Rattle.ruled_csv.specs.Lines.{is_comment}
 use Rattle.ruled_csv.specs.Faults.{number_of, row_fault}
 use Rattle.ruled_csv.specs.Kept.{end_of, is_left_out, is_line_end}
-use Rattle.ruled_csv.specs.Quotes.{is_closing, is_plain, is_quoted, config_of}
+use Rattle.ruled_csv.specs.Quotes.{are_words, is_closing, is_plain, is_quoted, config_of, separator}
 use Rattle.ruled_csv.specs.Rows.{columns_of}
+use Rattle.ruled_csv.specs.Words.{columns_known, words_in}
 use Rattle.ruled_csv.specs.declared.fault.RowsFault.{RowsFault}
 use Rattle.ruled_csv.specs.declared.fault.RowsFault.TheVariants.{OpenQuote, BehindQuote}
 use Rattle.ruled_csv.specs.declared.lines.Lines.{Lines}
@@ -165,11 +166,30 @@ abbrev pub fault_below : Dialect → List (List (List ℕ)) → Option (List (Li
 fault_below dialect rows None = None
 fault_below dialect rows (Some row) = row_fault dialect (columns_of (rows ++ row ∷ [])) (length rows) row
 
+-- the line that these are the parts of, between tabs
+abbrev pub line_of : List (List ℕ) → List ℕ
+line_of fields = join_by (λ field. field) (9 ∷ []) fields
+
+-- the row that these fields are below these rows: themselves, or the words of their line, if it has any
+abbrev pub row_made : Dialect → List (List (List ℕ)) → List (List ℕ) → Option (List (List ℕ))
+row_made dialect above fields = if are_words dialect.rows.fields then words_in (columns_known above) (line_of fields) else Some fields
+
+-- the same, where there are fields: of a byte that ends a row, and where no byte is left
+abbrev pub made : Dialect → List (List (List ℕ)) → Option (List (List ℕ)) → Option (List (List ℕ))
+made dialect above None = None
+made dialect above (Some fields) = row_made dialect above fields
+
+abbrev pub row_at : Dialect → Scan → ℕ → Option (List (List ℕ))
+row_at dialect scan byte = made dialect scan.rows (row_ended dialect scan.hand byte)
+
+abbrev pub row_left : Dialect → Scan → Option (List (List ℕ))
+row_left dialect scan = made dialect scan.rows (last_row scan.hand)
+
 abbrev pub scan_after : Dialect → Scan → ℕ → Scan
 scan_after dialect scan byte = record {
-  rows = with_row scan.rows (row_ended dialect scan.hand byte);
+  rows = with_row scan.rows (row_at dialect scan byte);
   hand = hand_after dialect scan.hand byte;
-  fault = option_or scan.fault (option_or (behind_fault dialect scan.hand byte) (fault_below dialect scan.rows (row_ended dialect scan.hand byte)));
+  fault = option_or scan.fault (option_or (behind_fault dialect scan.hand byte) (fault_below dialect scan.rows (row_at dialect scan byte)));
 }
 
 abbrev pub scan_start : Scan
@@ -188,10 +208,10 @@ is_calm byte = not (is_byte3 34 13 10 byte)
 
 -- behind a byte of a run that is in no quotes: what is in front of the next one, and the fields with the one at hand
 abbrev pub state_behind : Dialect → State → ℕ → State
-state_behind dialect state byte = if byte == dialect.delimiter then st.StartField else st.InField
+state_behind dialect state byte = if byte == separator dialect then st.StartField else st.InField
 
 abbrev pub fields_behind : Dialect → List (List ℕ) × List ℕ → ℕ → List (List ℕ) × List ℕ
-fields_behind dialect (fields, field) byte = if byte == dialect.delimiter then (fields ++ field ∷ [], []) else (fields, field ++ byte ∷ [])
+fields_behind dialect (fields, field) byte = if byte == separator dialect then (fields ++ field ∷ [], []) else (fields, field ++ byte ∷ [])
 
 -- the fields that a run cuts off
 abbrev pub cut_fields : Dialect → Hand → List ℕ → List (List ℕ) × List ℕ
@@ -239,11 +259,6 @@ left_of dialect text = left_from dialect left_start text
 -- the same of a byte, by the row at hand
 abbrev pub begins_out : Dialect → Hand → ℕ → Bool
 begins_out dialect hand byte = not (ends_at_end hand.state) && (nat_le hand.lines.line dialect.rows.skipped || is_comment dialect.rows.comment (byte ∷ []))
-
--- how many columns these rows have, if there is one
-abbrev pub columns_known : List (List (List ℕ)) → Option ℕ
-columns_known [] = None
-columns_known (row ∷ rows) = Some (length row)
 
 -- so many rows stand above, of so many columns
 abbrev pub Counts : List (List (List ℕ)) → ℕ → Option ℕ → Type 0

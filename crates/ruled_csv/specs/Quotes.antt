@@ -11,7 +11,7 @@ use Rattle.ruled_csv.specs.declared.fault.RowsFault.{RowsFault}
 use Rattle.ruled_csv.specs.declared.fault.RowsFault.TheVariants.{OpenQuote, BehindQuote}
 use Rattle.ruled_csv.specs.declared.dialect.Dialect.{Dialect}
 use Rattle.ruled_csv.specs.declared.dialect.Fields.{Fields}
-use Rattle.ruled_csv.specs.declared.dialect.Fields.TheVariants.{Quoted, Plain}
+use Rattle.ruled_csv.specs.declared.dialect.Fields.TheVariants.{Quoted, Plain, Words}
 use Rattle.csv.specs.declared.parser.Config.{Config}
 use Rattle.csv.specs.Reading.{default_config}
 
@@ -19,14 +19,25 @@ use Rattle.csv.specs.Reading.{default_config}
 abbrev pub has_quotes : Fields → Bool
 has_quotes Quoted = true
 has_quotes Plain = false
+has_quotes Words = false
+
+-- fields are words
+abbrev pub are_words : Fields → Bool
+are_words Quoted = false
+are_words Plain = false
+are_words Words = true
 
 -- a byte may open or close a quote
 abbrev pub is_quote : Fields → ℕ → Bool
 is_quote fields byte = has_quotes fields && (byte == 34)
 
+-- the byte between the fields that `csv` reads; a line of words is cut at its tabs there, and then anew
+abbrev pub separator : Dialect → ℕ
+separator dialect = if are_words dialect.rows.fields then 9 else dialect.delimiter
+
 -- the fields are parted by this byte, and quoted as in CSV, unless a quote is a byte like any other
 abbrev pub config_of : Dialect → Config
-config_of dialect = record default_config { delimiter = dialect.delimiter; quoting = has_quotes dialect.rows.fields }
+config_of dialect = record default_config { delimiter = separator dialect; quoting = has_quotes dialect.rows.fields }
 
 -- where the reading of `csv` stands behind these bytes, from a state on
 abbrev pub state_from : Dialect → State → List ℕ → State

@@ -2,15 +2,28 @@
 
 ghost use Rattle.std.specs.Prelude.{◌≡◌, ◌∷◌, [], ◌||◌, nat_le};
 ghost use Rattle.ruled_csv.specs.Lines.{is_comment};
-ghost use Rattle.ruled_csv.specs.Quotes.{has_quotes, is_quote};
+ghost use Rattle.ruled_csv.specs.Quotes.{are_words, has_quotes, is_quote, separator};
 
 /// How rows are written.
 #[derive(Clone, Copy)]
 pub struct Dialect {
-    /// The byte between two fields.
+    /// The byte between two fields that aren't words.
     pub delimiter: u8,
     /// Which lines hold rows, how long these may be, and how their fields are written.
     pub rows: RowRules,
+}
+
+impl Dialect {
+    /// The byte between the fields that a scan finds; those of a line of words are cut anew.
+    pub(crate) fn separator(self) -> u8
+        ensures { result ≡ separator self }
+    {
+        if self.rows.fields.are_words() {
+            b'\t'
+        } else {
+            self.delimiter
+        }
+    }
 }
 
 /// How the fields of a row are written, with the delimiter between two of them.
@@ -20,16 +33,27 @@ pub enum Fields {
     Quoted,
     /// Without: a quote is a byte like any other.
     Plain,
+    /// As words of a line, whatever the delimiter, with spaces, tabs and form feeds between them. A
+    /// quote is a byte like any other, and a line without a word is no row. Row 0 has all its words;
+    /// each row below it has at most as many, and the last of these is the rest of its line.
+    Words,
 }
 
 impl Fields {
+    /// Whether fields are words.
+    pub(crate) fn are_words(self) -> bool
+        ensures { result ≡ are_words self }
+    {
+        matches!(self, Fields::Words)
+    }
+
     // Whether a field may be in quotes.
     fn has_quotes(self) -> bool
         ensures { result ≡ has_quotes self }
     {
         match self {
             Fields::Quoted => true,
-            Fields::Plain => false,
+            Fields::Plain | Fields::Words => false,
         }
     }
 }

@@ -8,6 +8,7 @@ mod lines;
 mod reader;
 mod records;
 mod scanner;
+mod words;
 
 pub use crate::dialect::{Dialect, Fields, RowRules};
 pub use crate::fault::RowsFault;

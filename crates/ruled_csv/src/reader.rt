@@ -4,7 +4,7 @@ ghost use Rattle.std.specs.Prelude.{◌≡◌, ◌≤◌, ◌++◌, ◌∷◌, [
 ghost use Rattle.csv.specs.Records.{fields_of};
 ghost use Rattle.ruled_csv.specs.declared.dialect.Dialect.{Dialect};
 ghost use Rattle.ruled_csv.specs.Faults.{Tells, has_length, number_of, row_fault, rows_fault, sound_rows};
-ghost use Rattle.ruled_csv.specs.Inside.{Counts, Holds, Scan, fault_below, leaves_out, left_of, row_ended, scan_after, with_row};
+ghost use Rattle.ruled_csv.specs.Inside.{Counts, Holds, Scan, fault_below, leaves_out, left_of, row_at, row_made, scan_after, with_row};
 ghost use Rattle.ruled_csv.specs.Reading.{AppendsRest, AppendsSome, Foretells, HasRead, OnFault};
 ghost use Rattle.ruled_csv.specs.Rows.{ended_rows, rows_of};
 
@@ -12,6 +12,7 @@ use crate::dialect::Dialect;
 use crate::fault::RowsFault;
 use crate::lines::ends_line;
 use crate::scanner::Scanner;
+use crate::words::words_in;
 use csv::{ByteRecord, StringRecord};
 use std::alloc::{AllocError, Global};
 
@@ -52,8 +53,8 @@ fn text_of(
 /// A reader of rows whose bytes come in pieces of any length.
 ///
 /// Each row comes with the bytes that end it. The byte `dialect.delimiter` separates fields, which
-/// are quoted as in CSV. LF, CRLF and a lone CR end a row, and an empty line is no row, nor is one
-/// that `dialect.rows` leaves out.
+/// are quoted as in CSV, unless `dialect.rows.fields` says otherwise. LF, CRLF and a lone CR end a
+/// row, and an empty line is no row, nor is one that `dialect.rows` leaves out.
 ///
 /// A fault ends the reading. It is that of the first bad row, whatever follows: a row with another
 /// number of fields than row 0, unless rows may be ragged, with a field that isn't UTF-8, with text
@@ -100,17 +101,44 @@ impl RowReader {
         Ok(())
     }
 
+    // Appends the row that has these fields, or the words of their line, if it has any.
+    fn give_row(
+        &mut self,
+        fields: ByteRecord,
+        rows: &mut Vec<StringRecord>,
+    ) -> Result<(), RowsFault>
+        ensures left { self.new.is_left_out ≡ self.old.is_left_out }
+        ensures scanner { self.new.scanner ≡ self.old.scanner }
+        ensures rows { (above : List (List (List ℕ))) → Counts above self.old.rows self.old.columns
+            → OnOk result (map fields_of rows.new.items ≡ with_row (map fields_of rows.old.items) (row_made self.old.scanner.dialect above (fields_of fields))) }
+        ensures kept { OnErr result (rows.new.items ≡ rows.old.items) }
+        ensures counted { (above : List (List (List ℕ))) → Counts above self.old.rows self.old.columns
+            → OnOk result (Counts (with_row above (row_made self.old.scanner.dialect above (fields_of fields))) self.new.rows self.new.columns) }
+        ensures fault { (above : List (List (List ℕ))) → Counts above self.old.rows self.old.columns
+            → Tells (fault_below self.old.scanner.dialect above (row_made self.old.scanner.dialect above (fields_of fields))) result }
+    {
+        let dialect = self.scanner.dialect;
+        if !dialect.rows.fields.are_words() {
+            return self.give(fields, rows);
+        }
+        let alloc = *rows.allocator();
+        match words_in(alloc, self.columns, &fields)? {
+            Some(words) => self.give(words, rows),
+            None => Ok(()),
+        }
+    }
+
     // Reads a byte of a line that isn't left out, or of its end.
     fn scan(&mut self, byte: u8, rows: &mut Vec<StringRecord>) -> Result<(), RowsFault>
         ensures left { self.new.is_left_out ≡ self.old.is_left_out }
         ensures read { (dialect : Dialect) (scan : Scan) → Holds dialect scan self.old → OnOk result (Holds dialect (scan_after dialect scan byte) self.new) }
         ensures rows { (dialect : Dialect) (scan : Scan) → Holds dialect scan self.old
-            → OnOk result (map fields_of rows.new.items ≡ with_row (map fields_of rows.old.items) (row_ended dialect scan.hand byte)) }
+            → OnOk result (map fields_of rows.new.items ≡ with_row (map fields_of rows.old.items) (row_at dialect scan byte)) }
         ensures kept { OnErr result (rows.new.items ≡ rows.old.items) }
         ensures fault { (dialect : Dialect) (scan : Scan) → Holds dialect scan self.old → Foretells (scan_after dialect scan byte).fault result }
     {
         match self.scanner.read(byte)? {
-            Some(fields) => self.give(fields, rows),
+            Some(fields) => self.give_row(fields, rows),
             None => Ok(()),
         }
     }
@@ -200,7 +228,7 @@ impl RowReader {
     {
         let mut reader = self;
         match reader.scanner.end()? {
-            Some(fields) => reader.give(fields, rows),
+            Some(fields) => reader.give_row(fields, rows),
             None => Ok(()),
         }
     }

@@ -13,11 +13,12 @@ use std::alloc::Global;
 
 /// The rows of separated values, each a record of its fields.
 ///
-/// The byte `dialect.delimiter` separates fields, which are quoted as in CSV. LF, CRLF and a lone CR
-/// end a row, and an empty line is no row, nor is one that `dialect.rows` leaves out. The fault is
-/// that of the first bad row: one with another number of fields than row 0, unless rows may be
-/// ragged, one that isn't UTF-8, or one in which a quote isn't closed or is followed by text. The
-/// only other fault is out of memory, which no bytes need.
+/// The byte `dialect.delimiter` separates fields, which are quoted as in CSV, unless
+/// `dialect.rows.fields` says otherwise. LF, CRLF and a lone CR end a row, and an empty line is no
+/// row, nor is one that `dialect.rows` leaves out. The fault is that of the first bad row: one with
+/// another number of fields than row 0, unless rows may be ragged, one that isn't UTF-8, or one in
+/// which a quote isn't closed or is followed by text. The only other fault is out of memory, which
+/// no bytes need.
 pub fn read_rows(
     alloc: Global,
     dialect: Dialect,

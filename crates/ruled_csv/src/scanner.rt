@@ -9,7 +9,7 @@ ghost use Rattle.ruled_csv.specs.declared.dialect.Dialect.{Dialect};
 ghost use Rattle.ruled_csv.specs.Faults.{Tells};
 ghost use Rattle.ruled_csv.specs.Inside.{Joins, begins_out, behind_fault, empty_hand, hand_after, hand_below, hand_cut, hand_of, is_act_behind, is_bare, is_behind, is_calm, is_open, last_row, open_fault};
 ghost use Rattle.ruled_csv.specs.Inside.{opens, row_ended, state_behind, state_of, step_of};
-ghost use Rattle.ruled_csv.specs.Quotes.{is_closing, is_plain, is_quoted, config_of};
+ghost use Rattle.ruled_csv.specs.Quotes.{is_closing, is_plain, is_quoted, config_of, separator};
 
 use crate::dialect::Dialect;
 use crate::fault::RowsFault;
@@ -67,7 +67,7 @@ fn plain_step(dialect: Dialect, byte: u8) -> Step
     ensures bare { is_bare (state_of result.next) ≡ true }
 {
     let (next, act) = match byte {
-        _ if byte == dialect.delimiter => (Standing::Field, Act::EndField),
+        _ if byte == dialect.separator() => (Standing::Field, Act::EndField),
         b'\r' => (Standing::Return, Act::EndRow),
         b'\n' => (Standing::Row, Act::EndRow),
         _ => (Standing::Plain, Act::Join),
@@ -160,7 +160,7 @@ impl Standing {
 
     // What comes before the byte after a run outside quotes.
     fn behind_run(self, delimiter: u8, run: &[u8]) -> Standing
-        ensures { (dialect : Dialect) → dialect.delimiter ≡ delimiter → state_of result ≡ fold (state_behind dialect) (state_of self) run.now }
+        ensures { (dialect : Dialect) → separator dialect ≡ delimiter → state_of result ≡ fold (state_behind dialect) (state_of self) run.now }
     {
         match run {
             [] => self,
@@ -283,7 +283,7 @@ impl Scanner {
         ensures hand { OnOk result (hand_of self.new ≡ hand_cut self.old.dialect (hand_of self.old) run.now) }
         ensures dialect { self.new.dialect ≡ self.old.dialect }
     {
-        let delimiter = self.dialect.delimiter;
+        let delimiter = self.dialect.separator();
         self.standing = self.standing.behind_run(delimiter, run);
         let mut start = 0;
         for at in memchr_iter(delimiter, run) {

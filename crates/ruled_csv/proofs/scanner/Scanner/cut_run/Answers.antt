@@ -5,6 +5,7 @@ use Rattle.std.proofs.lemmas.List.{take_all}
 use Rattle.std.proofs.lemmas.Result.{on_ok_weaker}
 use Rattle.memchr.specs.Find.{is_byte, places_from}
 use Rattle.csv.specs.Records.{partial_of}
+use Rattle.ruled_csv.specs.Quotes.{separator}
 use Rattle.ruled_csv.specs.Inside.{Hand, fields_behind, hand_of, state_behind}
 use Rattle.ruled_csv.proofs.Runs.{field-ends, next-place, none-left, on-grown, run-joins}
 use Rattle.ruled_csv.proofs.scanner.Scanner.cut_run.Goals as goal
@@ -13,21 +14,21 @@ pub slice_bounds-end_field_with-count : goal.slice_bounds-end_field_with-count
 slice_bounds-end_field_with-count c =
     let run = c.args.run.now in
     let start = c.loop-at.start in
-    let next = next-place (is_byte c.args.self.now.dialect.delimiter) run start (length run - start) c.in-Some.at c.next.new.self (sym (c.loop-at.invariant.4) ∙ c.in-Some.ensures.steps) in
+    let next = next-place (is_byte (separator c.args.self.now.dialect)) run start (length run - start) c.in-Some.at c.next.new.self (sym (c.loop-at.invariant.4) ∙ c.in-Some.ensures.steps) in
     next.low
 
 pub slice_bounds-end_field_with-start : goal.slice_bounds-end_field_with-start
 slice_bounds-end_field_with-start c =
     let run = c.args.run.now in
     let start = c.loop-at.start in
-    let next = next-place (is_byte c.args.self.now.dialect.delimiter) run start (length run - start) c.in-Some.at c.next.new.self (sym (c.loop-at.invariant.4) ∙ c.in-Some.ensures.steps) in
+    let next = next-place (is_byte (separator c.args.self.now.dialect)) run start (length run - start) c.in-Some.at c.next.new.self (sym (c.loop-at.invariant.4) ∙ c.in-Some.ensures.steps) in
     next.low
 
 pub slice_bounds-end_field_with-end : goal.slice_bounds-end_field_with-end
 slice_bounds-end_field_with-end c =
     let run = c.args.run.now in
     let start = c.loop-at.start in
-    let next = next-place (is_byte c.args.self.now.dialect.delimiter) run start (length run - start) c.in-Some.at c.next.new.self (sym (c.loop-at.invariant.4) ∙ c.in-Some.ensures.steps) in
+    let next = next-place (is_byte (separator c.args.self.now.dialect)) run start (length run - start) c.in-Some.at c.next.new.self (sym (c.loop-at.invariant.4) ∙ c.in-Some.ensures.steps) in
     omega (arith, next.low, next.high, c.loop-at.invariant.0)
 
 pub loop-at-preserved : goal.loop-at-preserved
@@ -39,12 +40,12 @@ loop-at-preserved c =
     let old = hand_of c.args.self.now in
     let now = hand_of c.loop-at.self in
     let (within, same, parts, cut, left) = c.loop-at.invariant in
-    let next = next-place (is_byte dialect.delimiter) run start (length run - start) i c.next.new.self (sym left ∙ c.in-Some.ensures.steps) in
+    let next = next-place (is_byte (separator dialect)) run start (length run - start) i c.next.new.self (sym left ∙ c.in-Some.ensures.steps) in
     let high : i < length run = omega (arith, next.high, within) in
     let here : start + (i - start) ≡ i = omega (arith, next.low) in
     let joined = run-joins dialect run (old.fields, old.field) start (i - start) now.fields now.field (omega (arith, next.low, high)) (λ k low below. next.none k low (omega (arith, below, next.low))) cut in
     let before = subst (λ (k : ℕ). fold (fields_behind dialect) (old.fields, old.field) (take k run) ≡ (now.fields, now.field ++ slice_range run start k)) here joined in
-    let ends : get_or run i 0 ≡ dialect.delimiter = eqb-true (get_or run i 0) dialect.delimiter next.hit in
+    let ends : get_or run i 0 ≡ (separator dialect) = eqb-true (get_or run i 0) (separator dialect) next.hit in
     let ended = c.in_ok-end_field_with.ensures in
     let fields = now.fields ++ (now.field ++ slice_range run start i) ∷ [] in
     let empty : i + 1 - (i + 1) ≡ 0 = omega arith in
@@ -55,7 +56,7 @@ loop-at-preserved c =
       field-ends dialect run i high (old.fields, old.field) start now.fields now.field next.low before ends
           ∙ ap (λ (n : ℕ). (fields, [] ++ take n (drop (i + 1) run))) empty
           ∙ ap (λ (hand : Hand). (hand.fields, hand.field)) (sym ended.hand),
-      next.rest ∙ ap (λ (n : ℕ). places_from (is_byte dialect.delimiter) run (i + 1) (n - (i + 1))) end,
+      next.rest ∙ ap (λ (n : ℕ). places_from (is_byte (separator dialect)) run (i + 1) (n - (i + 1))) end,
     )
 
 pub returns-clause-hand : goal.returns-clause-hand
@@ -67,7 +68,7 @@ returns-clause-hand c =
     let now = hand_of c.loop-at.self in
     let (within, same, parts, cut, left) = c.loop-at.invariant in
     let end : start + (length run - start) ≡ length run = omega (arith, within) in
-    let none = none-left (is_byte dialect.delimiter) run start (length run - start) (sym c.in-None.ensures.steps.0 ∙ left) in
+    let none = none-left (is_byte (separator dialect)) run start (length run - start) (sym c.in-None.ensures.steps.0 ∙ left) in
     let joined = run-joins dialect run (old.fields, old.field) start (length run - start) now.fields now.field (omega (arith, within)) none cut in
     let all : fold (fields_behind dialect) (old.fields, old.field) run ≡ (now.fields, now.field ++ slice_range run start (length run)) =
     ap (fold (fields_behind dialect) (old.fields, old.field)) (sym (take_all (length run) run (omega arith)))

@@ -1,6 +1,7 @@
 use Rattle.std.proofs.Common.{◌≡◌, ◌≤◌, length, take}
 use Rattle.std.specs.Prelude.{fold}
 use Rattle.memchr.specs.Find.{is_byte, places_between}
+use Rattle.ruled_csv.specs.Quotes.{separator}
 use Rattle.ruled_csv.specs.Inside.{fields_behind, hand_of, state_behind}
 use Rattle.ruled_csv.proofs.scanner.Scanner.cut_run.Given as goal
 
@@ -12,4 +13,4 @@ invariant-loop-at l =
     × (l.self.dialect ≡ l.fn.self.dialect)
     × (now ≡ record old { state = fold (state_behind l.fn.self.dialect) old.state l.run; fields = now.fields; field = now.field })
     × (fold (fields_behind l.fn.self.dialect) (old.fields, old.field) (take l.start l.run) ≡ (now.fields, now.field))
-    × (l.at-iterator ≡ places_between (is_byte l.fn.self.dialect.delimiter) l.run l.start (length l.run))
+    × (l.at-iterator ≡ places_between (is_byte (separator l.fn.self.dialect)) l.run l.start (length l.run))
