@@ -161,6 +161,7 @@ fault_of_sql sql.NoRows = Sql sql.NoRows
 fault_of_sql (sql.Columns error) = Sql (sql.Columns error)
 fault_of_sql sql.NoTable = Sql sql.NoTable
 fault_of_sql (sql.Query (query.Refused error)) = Sql (sql.Query (query.Refused error))
+fault_of_sql (sql.Query (query.Limit steps)) = Sql (sql.Query (query.Limit steps))
 fault_of_sql (sql.Query query.Change) = Sql (sql.Query query.Change)
 fault_of_sql (sql.Query (query.Encoding row)) = Sql (sql.Query (query.Encoding row))
 fault_of_sql (sql.Query query.Memory) = Memory

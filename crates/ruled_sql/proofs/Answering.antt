@@ -1,8 +1,8 @@
 -- What is known of a database that was opened, of a statement that has shown its rows, and of the texts of these.
-use Rattle.std.proofs.Common.{◌≡◌, ◌<◌, ◌+◌, ◌∙◌, ◌∷◌, ◌++◌, ℕ, [], List, length, map, take, get_or, IsTrue, true, Option, None, Some, Result, Ok, sym, ap, subst, subst₂}
-use Rattle.std.specs.Prelude.{unwrap_or}
+use Rattle.std.proofs.Common.{◌≡◌, ◌<◌, ◌+◌, ◌∙◌, ◌∷◌, ◌++◌, ℕ, suc, [], List, length, map, take, get_or, IsTrue, true, Option, None, Some, Result, Ok, refl, sym, ap, subst, subst₂, arith}
+use Rattle.std.specs.Prelude.{slice_index_or, unwrap_or}
 use Rattle.std.proofs.lemmas.Bool.{and_from}
-use Rattle.std.proofs.lemmas.List.{map-append, map_more, take_more}
+use Rattle.std.proofs.lemmas.List.{get_or-map, length-map, length-take-le, map-append, map_more, take_more}
 use Rattle.csv.specs.Records.{Row as Fields, fields_of}
 use Rattle.sqlite_value.specs.Order.{Row, column}
 use Rattle.sqlite_value.specs.declared.value.Value.{Value}
@@ -23,10 +23,10 @@ use Rattle.sqlite.specs.Held.{Held, state}
 use Rattle.sqlite.specs.Listing.{IsSourceOf, reads_listing, understood}
 use Rattle.sqlite.specs.Outline.{Outline}
 use Rattle.sqlite.specs.Start.{FindsIn}
-use Rattle.sqlite.specs.State.{HasCleanDisk, IsLive, IsUnchanged, Opens, Shown, ShowsRows, State, mode_of, text_of}
+use Rattle.sqlite.specs.State.{HasCleanDisk, IsLive, IsStatement, IsUnchanged, Opens, Shown, ShowsRows, State, Writes, mode_of, text_of}
 use Rattle.sqlite.specs.Steps.{Outlines, column_names}
 use Rattle.ruled_database.specs.Values.{shown_text}
-use Rattle.ruled_sql.specs.Answers.{IsAnswer, IsHeld, Shows, image_of, shown_rows}
+use Rattle.ruled_sql.specs.Answers.{Changes, IsAnswer, IsChange, IsHeld, Makes, Means, Shows, image_of, shown_rows}
 
 -- ---- databases
 
@@ -65,31 +65,52 @@ named_as : (known : Result Compiled CompileError) (c : Compiled) (it : Outline) 
 named_as known c it is outlines = let known : Outlines (Ok c) it = subst (λ k. Outlines k it) is outlines in known.2
 
 module _ (query : List ℕ) (steps : ℕ) (old mid new : State) (rows : List Row) where
-  shows : old.changes ≡ 0 → old.step_limit ≡ Some steps → IsUnchanged old mid → mid.step_limit ≡ old.step_limit → new.changes ≡ 0 → (c : Compiled) (params : Row) (returning : Option Returning)
-      → ShowsRows mid new query c params rows returning → Shows query steps old.now c params rows returning
-  shows uncounted limited same limit none c params None h =
+  -- a statement that returns what it writes
+  module _ (c : Compiled) (params : Row) (what : Returning) (count : ℕ) (w : Writes mid new (Some what) c.command (text_of query c) params count) where
+    made : old.step_limit ≡ Some steps → IsUnchanged old mid → mid.step_limit ≡ old.step_limit → c.returning ≡ Some what → Makes query steps old.now c params (Ok (w.tally, new.now))
+    made limited same limit is =
+        subst (λ (returning : Option Returning). Does (Some steps) (mode_of mid) params old.now (text_of query c) returning c.command (Ok (w.tally, new.now))) (sym is)
+        (subst₂ (λ (most : Option ℕ) (db : Database). Does most (mode_of mid) params db (text_of query c) (Some what) c.command (Ok (w.tally, new.now))) (limit ∙ limited) same.0.now_is w.changed)
+
+    counted : old.changes ≡ 0 → IsUnchanged old mid → unwrap_or w.tally.rows 0 ≡ new.changes
+    counted uncounted same = ap (unwrap_or w.tally.rows) (sym (same.1.changes ∙ uncounted)) ∙ sym w.changes
+
+  shows : old.changes ≡ 0 → old.step_limit ≡ Some steps → IsUnchanged old mid → mid.step_limit ≡ old.step_limit → new.changes ≡ 0 → (c : Compiled) (params : Row) (returning : Option Returning) → c.returning ≡ returning
+      → ShowsRows mid new query c params rows returning → Shows query steps old.now c params returning rows
+  shows uncounted limited same limit none c params None is h =
       (h.0, subst (λ (db : Database). IsSourceOf (reads_listing db.schema query) db h.0) same.0.now_is h.1, h.2)
-  shows uncounted limited same limit none c params (Some what) h =
-      let w = h.1 in
-      let before : mid.changes ≡ 0 = same.1.changes ∙ uncounted in
-      let counted : unwrap_or w.tally.rows 0 ≡ 0 = ap (unwrap_or w.tally.rows) (sym before) ∙ sym w.changes ∙ none in
-      let changed = subst₂ (λ (most : Option ℕ) (db : Database). Does most (mode_of mid) params db (text_of query c) (Some what) c.command (Ok (w.tally, new.now))) (limit ∙ limited) same.0.now_is w.changed in
-      (w.tally, new.now, changed, counted, h.2)
+  shows uncounted limited same limit none c params (Some what) is h =
+      let w = h.1 in (w.tally, new.now, made c params what h.0 w limited same limit is, counted c params what h.0 w uncounted same ∙ none, h.2)
+
+  changes : old.changes ≡ 0 → old.step_limit ≡ Some steps → IsUnchanged old mid → mid.step_limit ≡ old.step_limit → 0 < new.changes → (c : Compiled) (params : Row) (returning : Option Returning) → c.returning ≡ returning
+      → ShowsRows mid new query c params rows returning → Changes query steps old.now c params
+  changes uncounted limited same limit some c params None is h = let none : new.changes ≡ 0 = h.3.1.changes ∙ same.1.changes ∙ uncounted in absurd (omega (arith, some, none))
+  changes uncounted limited same limit some c params (Some what) is h =
+      let w = h.1 in (w.tally, new.now, made c params what h.0 w limited same limit is, subst (λ (n : ℕ). 0 < n) (sym (counted c params what h.0 w uncounted same)) some)
+
+  means : IsUnchanged old mid → (c : Compiled) → IsStatement mid query [] c → Means query old.now c
+  means same c it = record { is = subst (λ (db : Database). understood db.schema query ≡ Ok c) same.0.now_is it.is; whole = it.whole; bare = sym it.given }
 
   pub answers : (it : Outline) → old.changes ≡ 0 → old.step_limit ≡ Some steps → IsUnchanged old mid → mid.step_limit ≡ old.step_limit → it.text ≡ query → Outlines (understood old.now.schema query) it
       → Shown it.text [] mid new rows → new.changes ≡ 0 → IsWithin mid.step_limit (length rows) → IsAnswer query steps old.now it.columns rows
   unfolding Shown
   answers it uncounted limited same limit text outlines shown none few =
       let h = subst (λ (sql : List ℕ). Shown sql [] mid new rows) text shown in
-      let is : understood old.now.schema query ≡ Ok h.0 = subst (λ (db : Database). understood db.schema query ≡ Ok h.0) same.0.now_is h.1.is in
+      let meant = means same h.0 h.1 in
       record {
         statement = h.0;
-        means = record { is = is; whole = h.1.whole; bare = sym h.1.given };
+        means = meant;
         time = h.1.now;
-        shows = shows uncounted limited same limit none h.0 _ h.0.returning h.2;
-        named = named_as (understood old.now.schema query) h.0 it is outlines;
+        shows = shows uncounted limited same limit none h.0 _ h.0.returning refl h.2;
+        named = named_as (understood old.now.schema query) h.0 it meant.is outlines;
         within = subst (λ (most : Option ℕ). IsWithin most (length rows)) (limit ∙ limited) few;
       }
+
+  pub changed : (it : Outline) → old.changes ≡ 0 → old.step_limit ≡ Some steps → IsUnchanged old mid → mid.step_limit ≡ old.step_limit → it.text ≡ query → Shown it.text [] mid new rows → 0 < new.changes
+      → IsChange query steps old.now
+  unfolding Shown
+  changed it uncounted limited same limit text shown some =
+      let h = subst (λ (sql : List ℕ). Shown sql [] mid new rows) text shown in (h.0, means same h.0 h.1, h.1.now, changes uncounted limited same limit some h.0 _ h.0.returning refl h.2)
 
 -- ---- rows that are made one after another
 
@@ -119,3 +140,11 @@ row_more names answer i x rows fields within is made before =
     ∙ ap (λ (text : List (List ℕ)). shown_rows names (take i answer) ++ text ∷ []) made
     ∙ ap (λ (y : Row). shown_rows names (take i answer) ++ map shown_text y ∷ []) is
     ∙ ap (λ (texts : List (List (List ℕ))). names ∷ texts) (sym (map_more (map shown_text) answer i x within))
+
+-- a row of texts behind so many others, and behind the names
+pub row-at : (names : List (List ℕ)) (answer : List Row) (i : ℕ) (x : Row) (rows : List Fields) (n : ℕ) → i < length answer → x ≡ get_or answer i x → map fields_of rows ≡ shown_rows names (take i answer) → n ≡ length rows
+    → map shown_text x ≡ slice_index_or (shown_rows names answer) n []
+row-at names answer i x rows n within is before long =
+    let some : length (map fields_of rows) ≡ suc (length (map (map shown_text) (take i answer))) = ap length before in
+    let count : n ≡ suc i = omega (arith, long, some, length-map rows fields_of, length-map (take i answer) (map shown_text), length-take-le i answer (omega (arith, within))) in
+    ap (map shown_text) is ∙ sym (get_or-map (map shown_text) answer i x [] within) ∙ ap (λ (k : ℕ). slice_index_or (shown_rows names answer) k []) (sym count)

@@ -1,12 +1,21 @@
 -- What is known of the statements that fill a table, and of what they lead to.
-use Rattle.std.proofs.Common.{◌≡◌, ◌<◌, ◌+◌, ◌∙◌, ◌∷◌, ◌++◌, ℕ, zero, suc, [], List, length, map, take, drop, get_or, slice_index_or, flat_map, None, Some, refl, sym, ap, ap₂, subst, arith}
+use Rattle.std.proofs.Common.{◌≡◌, ◌<◌, ◌+◌, ◌∙◌, ◌∷◌, ◌++◌, ℕ, zero, suc, [], List, length, map, take, drop, get_or, slice_index_or, flat_map, codes, Bool, true, false, if◌then◌else◌, ◌⊎◌, None, Some, inl, inr, refl, sym, ap, ap₂, subst, arith}
 use Rattle.std.specs.List.{join_by}
-use Rattle.std.proofs.lemmas.List.{map-append, take_all, take_more}
+use Rattle.std.specs.Prelude.{OnOk, Result, Ok, Err}
+use Rattle.std.proofs.lemmas.List.{append_assoc, map-append, take-append-drop, take_all, take_more}
 use Rattle.std.proofs.lemmas.Option.{same_Some, none-some}
 use Rattle.csv.specs.Records.{Row as Fields, field_at, fields_of}
+use Rattle.sqlite_value.specs.Order.{Row}
 use Rattle.sqlite_trees.specs.declared.memory.MemStore.{MemStore}
-use Rattle.sqlite.specs.Held.{Held}
-use Rattle.ruled_sql.specs.Filled.{AreRun, IsFilled, IsRun, Step, columns_text, filling, insertions, steps, values_of}
+use Rattle.sqlite.specs.Held.{Held, state}
+use Rattle.sqlite.specs.Steps.{over_memory}
+use Rattle.ruled_sql.specs.Answers.{IsAnswer, LacksAnswer, LacksText, is_memory, shown_rows}
+use Rattle.ruled_sql.specs.declared.fault.QueryFault.{QueryFault}
+use Rattle.ruled_sql.specs.declared.fault.QueryFault.TheVariants.{Change, Encoding, Limit, Memory, Refused}
+use Rattle.ruled_sql.specs.declared.fault.SqlFault.{SqlFault}
+use Rattle.ruled_sql.specs.declared.fault.SqlFault.TheVariants as sql
+use Rattle.ruled_sql.specs.Filled.{AreCut, AreRun, IsBlank, IsFaultOfStep, IsFilled, IsRun, IsStuck, IsUnfilled, LacksQueried, LacksTable, Step, columns_text, filling, insertions, names_no_table, steps, values_of}
+use Rattle.sqlite.specs.declared.error.Error.{Error}
 
 -- ---- fields
 
@@ -73,8 +82,94 @@ run-more text count records i x old mid new within is before run =
     ∙ ap (λ (fields : Fields). insertions text count (map fields_of (take i records)) ++ step fields ∷ []) (sym is) in
     subst (λ (all : List Step). AreRun all old new) (sym more) (run-all _ _ old mid new before (run-alone (step x) mid new run))
 
--- a table that is made, rows that are put into it, and a last step
-pub filled-by : (create settle : Step) (rows : List Step) (made mid new : Held MemStore) → IsFilled (create ∷ []) made → AreRun rows made mid → IsRun settle mid new → IsFilled (create ∷ (rows ++ settle ∷ [])) new
-filled-by create settle rows made mid new from runs last =
-    let run : IsRun create from.0 made = subst (λ (it : Held MemStore). IsRun create from.0 it) (sym from.2.2) from.2.1 in
-    (from.0, from.1, (made, run, run-all rows (settle ∷ []) made mid new runs (run-alone settle mid new last)))
+-- a table that is made, and filled
+pub filled-by : (create : Step) (others : List Step) (made new : Held MemStore) → IsFilled (create ∷ []) made → AreRun others made new → IsFilled (create ∷ others) new
+filled-by create others made new from runs = (from.0, from.1, run-all (create ∷ []) others from.0 made new from.2 runs)
+
+-- rows that are put into a table, and a last step
+pub settled : {X : Type 0} (result : Result X Error) (rows : List Step) (settle : Step) (old mid new : Held MemStore) → AreRun rows old mid → OnOk result (IsRun settle mid new) → OnOk result (AreRun (rows ++ settle ∷ []) old new)
+settled (Ok x) rows settle old mid new runs last = run-all rows (settle ∷ []) old mid new runs (run-alone settle mid new last)
+settled (Err error) rows settle old mid new runs last = tt
+
+-- ---- steps of which one fails
+
+pub cut-front : (front behind : List Step) (old : Held MemStore) (error : Error) → AreCut front old error → AreCut (front ++ behind) old error
+cut-front [] behind old error cut = absurd cut
+cut-front (step ∷ front) behind old error (inl stuck) = inl stuck
+cut-front (step ∷ front) behind old error (inr later) = inr (later.0, later.1, cut-front front behind later.0 error later.2)
+
+pub cut-behind : (front behind : List Step) (old mid : Held MemStore) (error : Error) → AreRun front old mid → AreCut behind mid error → AreCut (front ++ behind) old error
+cut-behind [] behind old mid error same cut = subst (λ (it : Held MemStore). AreCut behind it error) same cut
+cut-behind (step ∷ front) behind old mid error runs cut = inr (runs.0, runs.1, cut-behind front behind runs.0 mid error runs.2 cut)
+
+-- a row that isn't put in
+pub cut-more : (text : List ℕ) (count : ℕ) (records : List Fields) (i : ℕ) (x : Fields) (old mid : Held MemStore) (error : Error) → i < length records → x ≡ get_or records i x
+    → AreRun (insertions text count (map fields_of (take i records))) old mid → IsStuck (text, values_of count (fields_of x)) mid error → AreCut (insertions text count (map fields_of records)) old error
+cut-more text count records i x old mid error within is before stuck =
+    let step : Fields → Step = λ (fields : Fields). (text, values_of count (fields_of fields)) in
+    let of : List Fields → List Step = λ (some : List Fields). insertions text count (map fields_of some) in
+    let rest = drop (i + 1) records in
+    let whole : of records ≡ of (take i records) ++ (step x ∷ of rest) =
+    ap of (sym (take-append-drop (i + 1) records) ∙ ap (λ (some : List Fields). some ++ rest) (take_more records i x within) ∙ append_assoc (take i records) (get_or records i x ∷ []) rest)
+    ∙ ap (insertions text count) (map-append fields_of (take i records) (get_or records i x ∷ rest))
+    ∙ map-append (λ (fields : List (List ℕ)). (text, values_of count fields)) (map fields_of (take i records)) (fields_of (get_or records i x) ∷ map fields_of rest)
+    ∙ ap (λ (fields : Fields). of (take i records) ++ (step fields ∷ of rest)) (sym is) in
+    subst (λ (all : List Step). AreCut all old error) (sym whole) (cut-behind (of (take i records)) (step x ∷ of rest) old mid error before (inl stuck))
+
+-- the fault for one
+pub unfilled : (all : List Step) (blank : Held MemStore) → IsBlank blank → (error : Error) (fault : SqlFault) → IsFaultOfStep error fault → (is_memory error ≡ false → AreCut all blank error) → LacksTable all fault
+unfilled all blank is error sql.Database of cut = absurd of
+unfilled all blank is error sql.Damage of cut = absurd of
+unfilled all blank is error sql.NoRows of cut = absurd of
+unfilled all blank is error (sql.Columns found) of cut = (blank, is, subst (λ (it : Error). AreCut all blank it) (sym of.0) (cut of.1))
+unfilled all blank is error sql.NoTable of cut = absurd of
+unfilled all blank is error (sql.Query found) of cut = absurd of
+unfilled all blank is error sql.Memory of cut = tt
+
+-- a table that isn't made isn't filled
+pub unmade : (create : Step) (others : List Step) (fault : SqlFault) → LacksTable (create ∷ []) fault → LacksTable (create ∷ others) fault
+unmade create others sql.Database lacks = absurd lacks
+unmade create others sql.Damage lacks = absurd lacks
+unmade create others sql.NoRows lacks = absurd lacks
+unmade create others (sql.Columns error) lacks = (lacks.0, lacks.1, cut-front (create ∷ []) others lacks.0 error lacks.2)
+unmade create others sql.NoTable lacks = absurd lacks
+unmade create others (sql.Query found) lacks = absurd lacks
+unmade create others sql.Memory lacks = tt
+
+-- one that is made may not be filled
+pub unfilled-by : (create : Step) (others : List Step) (made : Held MemStore) → IsFilled (create ∷ []) made → (error : Error) (fault : SqlFault) → IsFaultOfStep error fault → (is_memory error ≡ false → AreCut others made error)
+    → LacksTable (create ∷ others) fault
+unfilled-by create others made from error fault of cut = unfilled (create ∷ others) from.0 from.1 error fault of (λ sound. cut-behind (create ∷ []) others from.0 made error from.2 (cut sound))
+
+-- ---- why a query has no answer of a table
+
+module _ (name called : List ℕ) (table : List (List (List ℕ))) (query : List ℕ) (most : ℕ) (either : (called ≡ name) ⊎ (called ≡ codes "input")) where
+  pub lacks-table : (all : List Step) → all ≡ steps called table → (fault : SqlFault) → LacksTable all fault → LacksQueried name table query most fault
+  lacks-table all is sql.Database lacks = absurd lacks
+  lacks-table all is sql.Damage lacks = absurd lacks
+  lacks-table all is sql.NoRows lacks = absurd lacks
+  lacks-table all is (sql.Columns error) lacks = (called, either, subst (λ (some : List Step). IsUnfilled some error) is lacks)
+  lacks-table all is sql.NoTable lacks = absurd lacks
+  lacks-table all is (sql.Query found) lacks = absurd lacks
+  lacks-table all is sql.Memory lacks = tt
+
+  pub no-rows : (all : List Step) → all ≡ steps called table → (fault : SqlFault) → LacksTable all fault → fault ≡ sql.NoRows → ⊥
+  no-rows all is fault lacks none = subst (λ (it : SqlFault). LacksTable all it) none lacks
+
+  module _ (connection : Held MemStore) (filled : IsFilled (steps called table) connection) where
+    lacks-by : (fault : QueryFault) → LacksAnswer query most (state over_memory connection).now fault → (no_table : Bool) → names_no_table fault ≡ no_table
+        → LacksQueried name table query most (if no_table then sql.NoTable else sql.Query fault)
+    lacks-by fault lacks false is = (is, (called, either, connection, filled, lacks))
+    lacks-by fault lacks true is = (called, either, connection, filled, (fault, is, lacks))
+
+    pub lacks-answer : (fault : QueryFault) → LacksAnswer query most (state over_memory connection).now fault → LacksQueried name table query most (if names_no_table fault then sql.NoTable else sql.Query fault)
+    lacks-answer fault lacks = lacks-by fault lacks (names_no_table fault) refl
+
+    -- an answer that isn't UTF-8
+    pub lacks-text : (names : List (List ℕ)) (answer : List Row) → IsAnswer query most (state over_memory connection).now names answer → (fault : QueryFault) → LacksText (shown_rows names answer) fault
+        → LacksQueried name table query most (sql.Query fault)
+    lacks-text names answer is (Refused error) lacks = absurd lacks
+    lacks-text names answer is (Limit steps) lacks = absurd lacks
+    lacks-text names answer is Change lacks = absurd lacks
+    lacks-text names answer is (Encoding row) lacks = (refl, (called, either, connection, filled, (names, answer, is, lacks)))
+    lacks-text names answer is Memory lacks = (refl, (called, either, connection, filled, tt))

@@ -1,30 +1,52 @@
--- What is known of files that couldn't be opened.
-use Rattle.std.proofs.Common.{◌≡◌, ◌∙◌, ℕ, [], List, Result, Ok, Err, Bool, IsTrue, true, false, inl, inr, refl, sym, ap, subst, subst₂}
+-- What is known of files that couldn't be opened, and of queries that fail.
+use Rattle.std.proofs.Common.{◌≡◌, ◌⊎◌, ◌∙◌, ◌==◌, ℕ, [], List, Option, None, Some, Result, Ok, Err, Bool, IsTrue, true, false, if◌then◌else◌, inl, inr, refl, sym, ap, ap₂, subst, subst₂}
+use Rattle.std.specs.Prelude.{IfErr, slice_index_or}
 use Rattle.std.specs.Result.{IsErrAnd}
 use Rattle.std.proofs.lemmas.Bool.{and_from, true≢false}
+use Rattle.csv.specs.Records.{AllText}
+use Rattle.sqlite_value.specs.Order.{Row}
 use Rattle.sqlite_disk.specs.declared.Disk.{Ghosts}
 use Rattle.sqlite_disk.specs.declared.Files.{Files}
+use Rattle.sqlite_disk.specs.declared.tally.Tally.{Tally}
 use Rattle.sqlite_pool.specs.Pool.{files}
 use Rattle.sqlite_pool.proofs.StateLemmas.{clean_is}
+use Rattle.sqlite_store.specs.Report.{named}
+use Rattle.sqlite_wal.specs.Reads.{tally_of_files}
 use Rattle.sqlite_trees.specs.declared.error.StoreError.{StoreError}
 use Rattle.sqlite_trees.specs.declared.error.StoreError.TheVariants.{OutOfMemory, Io, Corrupt, Full, Broken, Unstorable}
-use Rattle.sqlite.specs.Files.{FailsToOpenFiles, HoldsDatabase, IsCleanLeft}
+use Rattle.sqlite_schema.specs.declared.command.Command.{Command}
+use Rattle.sqlite_schema.specs.declared.command.Returning.{Returning}
+use Rattle.sqlite_resolve.specs.declared.compiled.Compiled.{Compiled}
+use Rattle.sqlite.specs.Clock.{timed}
+use Rattle.sqlite.specs.Closing.{files_left}
+use Rattle.sqlite.specs.Does.{Does, Tally as Made}
+use Rattle.sqlite.specs.Effect.{Database, RefusesToRead}
+use Rattle.sqlite.specs.Files.{FailsToOpenFiles, HoldsDatabase, IsCleanLeft, tally_left}
 use Rattle.sqlite.specs.Opening.{FailsAs}
-use Rattle.sqlite.specs.State.{store_error}
+use Rattle.sqlite.specs.State.{FailsToQuery, FailsToShow, HasCause, IsMisplaced, IsNotRun, IsStatement, MayChange, RunsCommand, State, mode_of, store_error, text_of}
 use Rattle.sqlite.specs.declared.error.Error.{Error}
 use Rattle.sqlite.specs.declared.error.Error.TheVariants.{SqliteFailure}
-use Rattle.sqlite.specs.declared.error.ErrorCode.TheVariants.{NotADatabase}
+use Rattle.sqlite.specs.declared.error.ErrorCode.TheVariants as code
 use Rattle.sqlite.specs.declared.file.Leftover.{Leftover}
 use Rattle.sqlite.specs.declared.file.Leftover.TheVariants as left
-use Rattle.ruled_sql.specs.Answers.{HoldsNone}
+use Rattle.ruled_sql.specs.Answers.{Fails, IsAnswer, IsFaultOf, IsFaultOfFile, IsFaultOfRow, IsHeld, IsOfTransaction, IsRefused, IsUnopened, LacksAnswer, LacksRows, LacksText, is_memory, shown_rows}
+use Rattle.ruled_sql.specs.declared.fault.QueryFault.{QueryFault}
+use Rattle.ruled_sql.specs.declared.fault.QueryFault.TheVariants.{Change, Encoding, Limit, Memory, Refused}
 use Rattle.ruled_sql.specs.declared.fault.SqlFault.{SqlFault}
+use Rattle.ruled_sql.specs.declared.fault.SqlFault.TheVariants as sql
 
--- whether an error says that files are no database
+-- ---- files
+
+-- whether an error says that files are no database, or damaged
 abbrev says_none : Error → Bool
-says_none (SqliteFailure NotADatabase) = true
+says_none (SqliteFailure code.NotADatabase) = true
 says_none _ = false
 
--- a failure of the disk doesn't
+abbrev says_damage : Error → Bool
+says_damage (SqliteFailure code.DatabaseCorrupt) = true
+says_damage _ = false
+
+-- a failure of the disk says the one never, and the other only if a read failed its test
 disk-says : (kind : StoreError) → says_none (store_error kind) ≡ false
 disk-says OutOfMemory = refl
 disk-says Io = refl
@@ -33,12 +55,23 @@ disk-says Full = refl
 disk-says Broken = refl
 disk-says Unstorable = refl
 
+disk-damages : (passed refused : Bool) → passed ≡ true → says_damage (store_error (if passed then (if refused then Io else Full) else Corrupt)) ≡ false
+disk-damages true true is = refl
+disk-damages true false is = refl
+disk-damages false refused is = absurd (true≢false (sym is))
+
 -- so such an error comes only of files that aren't what is wanted
-not_wanted : (kind : StoreError) (old new : ℕ) (AtLimit Wanted : Type 0) → FailsAs kind old new AtLimit Wanted (SqliteFailure NotADatabase) → ¬ Wanted
+not_wanted : (kind : StoreError) (old new : ℕ) (AtLimit Wanted : Type 0) → FailsAs kind old new AtLimit Wanted (SqliteFailure code.NotADatabase) → ¬ Wanted
 not_wanted kind old new AtLimit Wanted (inl memory) = absurd (true≢false (ap says_none memory))
 not_wanted kind old new AtLimit Wanted (inr (inl none)) = none.1
 not_wanted kind old new AtLimit Wanted (inr (inr (inl disk))) = absurd (true≢false (ap says_none disk.0 ∙ disk-says kind))
 not_wanted kind old new AtLimit Wanted (inr (inr (inr full))) = absurd (true≢false (ap says_none full.0))
+
+not_sound : (kind : StoreError) (old new : ℕ) (AtLimit Wanted : Type 0) → says_damage (store_error kind) ≡ false → FailsAs kind old new AtLimit Wanted (SqliteFailure code.DatabaseCorrupt) → ¬ Wanted
+not_sound kind old new AtLimit Wanted passed (inl memory) = absurd (true≢false (ap says_damage memory))
+not_sound kind old new AtLimit Wanted passed (inr (inl none)) = none.1
+not_sound kind old new AtLimit Wanted passed (inr (inr (inl disk))) = absurd (true≢false (ap says_damage disk.0 ∙ passed))
+not_sound kind old new AtLimit Wanted passed (inr (inr (inr full))) = absurd (true≢false (ap says_damage full.0))
 
 -- files that are always clean are so when they couldn't be opened
 clean_left : {D : Type 0} {g : Ghosts D} → ((file : D) → g.is_clean file ≡ true) → (rest : Leftover D g) → IsCleanLeft rest
@@ -50,14 +83,146 @@ clean_left clean (left.Store it) =
     let both = files it.pool in
     subst IsTrue (sym (clean_is it.pool)) (and_from _ _ (clean both.0) (clean both.1))
 
--- the bytes of two files, of which the log is empty, hold no database
-pub none_held : {D : Type 0} {g : Ghosts D} → ((file : D) → g.is_clean file ≡ true) → (both : Files D) (bytes : List ℕ) (rest : Leftover D g) (error : Error) → g.seen both.log ≡ [] → g.seen both.db ≡ bytes
-    → (IsCleanLeft rest → FailsToOpenFiles both rest error) → error ≡ SqliteFailure NotADatabase → HoldsNone bytes
-none_held clean both bytes rest error empty is fails says = λ trees held.
-    let refused = subst (λ e. FailsToOpenFiles both rest e) says (fails (clean_left clean rest)) in
-    not_wanted _ _ _ _ _ refused (inl (trees, subst₂ (λ (l d : List ℕ). HoldsDatabase (record { log = l; db = d }) trees) (sym empty) (sym is) held))
+left-tally : {D : Type 0} {g : Ghosts D} (rest : Leftover D g) → tally_left rest ≡ tally_of_files g (files_left rest)
+left-tally (left.Files both) = refl
+left-tally (left.Unopened it) = refl
+left-tally (left.Store it) = refl
 
--- a fault that is handed on
+-- why the bytes of two files, of which the log is empty, aren't opened
+module _ {D : Type 0} {g : Ghosts D} (clean : (file : D) → g.is_clean file ≡ true) (both : Files D) (bytes : List ℕ) (rest : Leftover D g) (error : Error) (empty : g.seen both.log ≡ []) (is : g.seen both.db ≡ bytes)
+    (fails : IsCleanLeft rest → FailsToOpenFiles both rest error) where
+  refused-with : (e : Error) → error ≡ e → FailsToOpenFiles both rest e
+  refused-with e says = subst (λ e. FailsToOpenFiles both rest e) says (fails (clean_left clean rest))
+
+  unheld : (trees : _) → HoldsDatabase (record { log = []; db = bytes }) trees → HoldsDatabase (record { log = g.seen both.log; db = g.seen both.db }) trees
+  unheld trees held = subst₂ (λ (l d : List ℕ). HoldsDatabase (record { log = l; db = d }) trees) (sym empty) (sym is) held
+
+  pub unopened : (before after : Tally) (now : Files D) (fault : SqlFault) → before ≡ tally_of_files g (both.log, both.db) → (now.log, now.db) ≡ files_left rest → after ≡ tally_of_files g (now.log, now.db)
+      → IsFaultOfFile error (after.caught == before.caught) fault → IsUnopened bytes fault
+  unopened before after now sql.Database was left is says = λ trees held. not_wanted _ _ _ _ _ (refused-with _ says) (inl (trees, unheld trees held))
+  unopened before after now sql.Damage was left is says =
+      let same : after ≡ tally_left rest = is ∙ ap (tally_of_files g) left ∙ sym (left-tally rest) in
+      let old = tally_of_files g (both.log, both.db) in
+      let new = tally_left rest in
+      let passed : (new.caught == old.caught) ≡ true = sym (ap₂ (λ (one two : Tally). one.caught == two.caught) same was) ∙ says.1 in
+      λ trees held. not_sound (named old new) _ _ _ _ (disk-damages (new.caught == old.caught) (new.refused == old.refused) passed) (refused-with _ says.0) (inl (trees, unheld trees held))
+  unopened before after now sql.NoRows was left is says = absurd says
+  unopened before after now (sql.Columns found) was left is says = absurd says
+  unopened before after now sql.NoTable was left is says = absurd says
+  unopened before after now (sql.Query found) was left is says = absurd says
+  unopened before after now sql.Memory was left is says = tt
+
+-- so no query has an answer of them
+pub unopened-lacks : (bytes query : List ℕ) (steps : ℕ) (fault : SqlFault) → IsUnopened bytes fault → LacksRows bytes query steps fault
+unopened-lacks bytes query steps sql.Database h = h
+unopened-lacks bytes query steps sql.Damage h = h
+unopened-lacks bytes query steps sql.NoRows h = h
+unopened-lacks bytes query steps (sql.Columns found) h = h
+unopened-lacks bytes query steps sql.NoTable h = h
+unopened-lacks bytes query steps (sql.Query found) h = absurd h
+unopened-lacks bytes query steps sql.Memory h = h
+
+-- ---- queries
+
+-- an error that isn't of memory
+told : (query : List ℕ) (steps : ℕ) (db : Database) (error : Error) (fault : QueryFault) → IsFaultOf steps error fault → IsRefused query steps db error → LacksAnswer query steps db fault
+told query steps db error (Refused found) is h = subst (λ (it : Error). IsRefused query steps db it) (sym is.0) h
+told query steps db error (Limit most) is h = (is.0, subst (λ (it : Error). IsRefused query steps db it) is.1 h)
+told query steps db error Change is h = absurd is
+told query steps db error (Encoding row) is h = absurd is
+told query steps db error Memory is h = tt
+
+-- one that is
+of-memory : (query : List ℕ) (steps : ℕ) (db : Database) (error : Error) (fault : QueryFault) → IsFaultOf steps error fault → is_memory error ≡ true → LacksAnswer query steps db fault
+of-memory query steps db error (Refused found) is memory = absurd (true≢false (sym memory ∙ is.1))
+of-memory query steps db error (Limit most) is memory = absurd (true≢false (sym memory ∙ ap is_memory is.1))
+of-memory query steps db error Change is memory = absurd is
+of-memory query steps db error (Encoding row) is memory = absurd is
+of-memory query steps db error Memory is memory = tt
+
+of-transaction : (s : State) (command : Command) (error : Error) → IsMisplaced s command error → IsOfTransaction command error
+of-transaction s command error (inl (says, inl begin)) = inl (says, inl begin.0)
+of-transaction s command error (inl (says, inr end)) = inl (says, inr end.0)
+of-transaction s command error (inr h) = inr (h.0, h.1, h.2)
+
+module _ (query : List ℕ) (steps : ℕ) (old new : State) (error : Error) (fault : QueryFault) (is : IsFaultOf steps error fault) where
+  abbrev Lacks : Type 0
+  Lacks = LacksAnswer query steps old.now fault
+
+  -- the store fails
+  by-cause : (TooBig : Type 0) → (TooBig → error ≡ SqliteFailure code.TooBig → Lacks) → (cause : StoreError) → error ≡ store_error cause → HasCause old new TooBig cause → Lacks
+  by-cause TooBig big OutOfMemory same h = of-memory query steps old.now error fault is (ap is_memory same)
+  by-cause TooBig big Io same h = of-memory query steps old.now error fault is (ap is_memory same)
+  by-cause TooBig big Corrupt same h = of-memory query steps old.now error fault is (ap is_memory same)
+  by-cause TooBig big Full same h = of-memory query steps old.now error fault is (ap is_memory same)
+  by-cause TooBig big Broken same h = of-memory query steps old.now error fault is (ap is_memory same)
+  by-cause TooBig big Unstorable same h = big h same
+
+  -- the text is no statement
+  pub unread : IsNotRun old new query [] error → Lacks
+  unfolding IsNotRun
+  unread (inl h) = told query steps old.now error fault is (inl h.0)
+  unread (inr h) = by-cause ⊥ (λ none same. absurd none) h.0 h.1 h.2
+
+  module _ (limited : old.step_limit ≡ Some steps) (c : Compiled) (it : IsStatement old query [] c) where
+    abbrev params : Row
+    params = timed [] c.formats it.now
+
+    fails : Fails query steps old.now c params error c.returning → Lacks
+    fails h = told query steps old.now error fault is (inr (c, record { is = it.is; whole = it.whole; bare = sym it.given }, it.now, h))
+
+    fails-as : (returning : Option Returning) → c.returning ≡ returning → Fails query steps old.now c params error returning → Lacks
+    fails-as returning same h = fails (subst (λ (r : Option Returning). Fails query steps old.now c params error r) (sym same) h)
+
+    abbrev Limited : Option ℕ → Result (Made × Database) (Option Error) → Type 0
+    Limited most = Does most (mode_of old) params old.now (text_of query c) c.returning c.command
+
+    refuses : (what : Returning) → c.returning ≡ Some what → IsMisplaced old c.command error ⊎ (MayChange c × Limited old.step_limit (Err (Some error))) → Lacks
+    refuses what same (inl misplaced) = fails-as (Some what) same (inr (inr (of-transaction old c.command error misplaced)))
+    refuses what same (inr refused) = fails-as (Some what) same (inl (subst (λ (most : Option ℕ). Limited most (Err (Some error))) limited refused.1))
+
+    runs-not : (what : Returning) → c.returning ≡ Some what → RunsCommand old new query c params (Err error) → Lacks
+    runs-not what same (inl h) = refuses what same h.0
+    runs-not what same (inr h) =
+        by-cause (Limited old.step_limit (Err None)) (λ none big. fails-as (Some what) same (inr (inl (subst (λ (most : Option ℕ). Limited most (Err None)) limited none, big)))) h.0 h.1 h.2
+
+    unshown : (returning : Option Returning) → c.returning ≡ returning → FailsToShow old new query c params error returning → Lacks
+    unshown None same h = fails-as None same (h.0, h.1, subst (λ (most : Option ℕ). RefusesToRead most c.command h.0 params error) limited h.2)
+    unshown (Some what) same h = runs-not what same h
+
+  pub unanswered : old.step_limit ≡ Some steps → FailsToQuery query [] old new error → Lacks
+  unfolding FailsToQuery
+  unanswered limited (inl h) = unread h
+  unanswered limited (inr h) = unshown limited h.0 h.1 h.0.returning refl h.2
+
+-- an answer that isn't UTF-8
+pub unshown-lacks : (bytes query : List ℕ) (steps : ℕ) (db : Database) → IsHeld bytes db → (names : List (List ℕ)) (answer : List Row) → IsAnswer query steps db names answer → (fault : QueryFault) → LacksText (shown_rows names answer) fault
+    → LacksRows bytes query steps (sql.Query fault)
+unshown-lacks bytes query steps db held names answer is (Refused error) lacks = absurd lacks
+unshown-lacks bytes query steps db held names answer is (Limit most) lacks = absurd lacks
+unshown-lacks bytes query steps db held names answer is Change lacks = absurd lacks
+unshown-lacks bytes query steps db held names answer is (Encoding row) lacks = (db, held, (names, answer, is, lacks))
+unshown-lacks bytes query steps db held names answer is Memory lacks = (db, held, tt)
+
+-- texts of one row of several
+pub row-lacks : (rows : List (List (List ℕ))) (row : ℕ) (texts : List (List ℕ)) → texts ≡ slice_index_or rows row [] → (fault : QueryFault) → IsFaultOfRow row texts fault → LacksText rows fault
+row-lacks rows row texts is (Refused error) lacks = absurd lacks
+row-lacks rows row texts is (Limit most) lacks = absurd lacks
+row-lacks rows row texts is Change lacks = absurd lacks
+row-lacks rows row texts is (Encoding at) lacks = λ all. lacks.1 (subst AllText (ap (λ (n : ℕ). slice_index_or rows n []) lacks.0 ∙ sym is) all)
+row-lacks rows row texts is Memory lacks = tt
+
+-- ---- faults that are handed on
+
 pub handed_on : {X : Type 0} (kind : SqlFault) (result : Result X SqlFault) (found : SqlFault) → IsErrAnd result (λ fault. fault ≡ found) → result ≡ Err kind → found ≡ kind
 handed_on kind (Ok x) found told is = absurd told
 handed_on kind (Err fault) found told is = let same : fault ≡ kind = cc in sym told ∙ same
+
+pub handed : {X F : Type 0} (P : F → Type 0) (result : Result X F) (found : F) → IsErrAnd result (λ fault. fault ≡ found) → P found → IfErr result P
+handed P (Ok x) found told h = absurd told
+handed P (Err fault) found told h = subst P (sym told) h
+
+-- memory that is refused is no other error
+pub lost : {X : Type 0} (P : Error → Type 0) (result : Result X Error) → IsErrAnd result (λ error. error ≡ SqliteFailure code.OutOfMemory) → IfErr result (λ error. is_memory error ≡ false → P error)
+lost P (Ok x) told = absurd told
+lost P (Err error) told = λ sound. absurd (true≢false (sym (ap is_memory told) ∙ sound))

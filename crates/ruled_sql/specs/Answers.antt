@@ -1,19 +1,30 @@
--- The rows that a query answers of the database that bytes hold.
-use Rattle.std.specs.Prelude.{◌≡◌, ◌<◌, ◌≤◌, ℕ, false, List, [], ◌∷◌, length, map, Option, Some, None, unwrap_or, Ok, ◌+◌, ◌*◌, ◌/◌, ◌==◌, max, min, slice_index_or, if◌then◌else◌}
+-- The rows that a query answers of the database that bytes hold, or why it answers none.
+use Rattle.std.specs.Prelude.{◌≡◌, ◌≢◌, ◌⊎◌, ⊤, ◌<◌, ◌≤◌, ℕ, Bool, true, false, List, [], ◌∷◌, length, map, Option, Some, None, unwrap_or, Result, Ok, Err, ◌+◌, ◌*◌, ◌/◌, ◌==◌, max, min, slice_index_or, if◌then◌else◌}
+use Rattle.csv.specs.Records.{AllText}
 use Rattle.sqlite_value.specs.Order.{Row}
 use Rattle.sqlite_trees.specs.Tree.{Trees}
 use Rattle.sqlite_wal.specs.Recovery.{Image}
+use Rattle.sqlite_schema.specs.declared.command.Command.{Command}
+use Rattle.sqlite_schema.specs.declared.command.Command.TheVariants.{Begin, Commit, Release, Rollback, RollbackTo}
 use Rattle.sqlite_schema.specs.declared.command.Returning.{Returning}
 use Rattle.sqlite_schema.specs.declared.schema.Keys.TheVariants.{Enforced}
 use Rattle.sqlite_resolve.specs.declared.compiled.Compiled.{Compiled}
+use Rattle.sqlite_resolve.specs.declared.error.CompileError.{CompileError}
 use Rattle.sqlite.specs.Clock.{timed}
 use Rattle.sqlite.specs.Does.{Does, Tally}
-use Rattle.sqlite.specs.Effect.{Database, IsDatabase, Reads}
+use Rattle.sqlite.specs.declared.error.Error.{Error}
+use Rattle.sqlite.specs.declared.error.Error.TheVariants.{InvalidParameterCount, MultipleStatement, SqlInputError, SqliteFailure}
+use Rattle.sqlite.specs.declared.error.ErrorCode.TheVariants as code
+use Rattle.sqlite.specs.Effect.{Database, IsDatabase, Reads, RefusesToRead}
 use Rattle.sqlite.specs.Files.{AreFoundIn, HoldsDatabase}
 use Rattle.sqlite.specs.Listing.{IsSourceOf, reads_listing, understood}
 use Rattle.sqlite.specs.State.{text_of}
 use Rattle.sqlite.specs.Steps.{column_names}
 use Rattle.ruled_database.specs.Values.{shown_text}
+use Rattle.ruled_sql.specs.declared.fault.QueryFault.{QueryFault}
+use Rattle.ruled_sql.specs.declared.fault.QueryFault.TheVariants.{Change, Encoding, Limit, Memory, Refused}
+use Rattle.ruled_sql.specs.declared.fault.SqlFault.{SqlFault}
+use Rattle.ruled_sql.specs.declared.fault.SqlFault.TheVariants as sql
 
 -- ---- the database
 
@@ -39,14 +50,15 @@ pub record Means (query : List ℕ) (db : Database) (c : Compiled) : Type 0 wher
   pub whole : length query ≤ c.tail
   pub bare : length c.names ≡ 0
 
-module _ (query : List ℕ) (steps : ℕ) (db : Database) (c : Compiled) (params : Row) (rows : List Row) where
+module _ (query : List ℕ) (steps : ℕ) (db : Database) (c : Compiled) (params : Row) where
+  -- what a statement that returns rows makes of the database, or why it makes nothing of it
+  abbrev pub Makes : Result (Tally × Database) (Option Error) → Type 0
+  Makes = Does (Some steps) (record { keys = Enforced; in_doubt = false; may_wait = false }) params db (text_of query c) c.returning c.command
+
   -- the rows are what a statement reads; or what one that changes no row returns
-  abbrev pub Shows : Option Returning → Type 0
-  Shows None = (source : Database) × IsSourceOf (reads_listing db.schema query) db source × Reads c.command source params rows
-  Shows (Some what) =
-      (tally : Tally) × (after : Database)
-      × Does (Some steps) (record { keys = Enforced; in_doubt = false; may_wait = false }) params db (text_of query c) (Some what) c.command (Ok (tally, after))
-      × (unwrap_or tally.rows 0 ≡ 0) × (rows ≡ tally.shown)
+  abbrev pub Shows : Option Returning → List Row → Type 0
+  Shows None rows = (source : Database) × IsSourceOf (reads_listing db.schema query) db source × Reads c.command source params rows
+  Shows (Some what) rows = (tally : Tally) × (after : Database) × Makes (Ok (tally, after)) × (unwrap_or tally.rows 0 ≡ 0) × (rows ≡ tally.shown)
 
 -- the names of its columns, and its rows, each of which takes a step
 pub record IsAnswer (query : List ℕ) (steps : ℕ) (db : Database) (names : List (List ℕ)) (rows : List Row) : Type 0 where
@@ -54,7 +66,7 @@ pub record IsAnswer (query : List ℕ) (steps : ℕ) (db : Database) (names : Li
   pub means : Means query db statement
   -- in milliseconds, where the statement reads the time
   pub time : ℕ
-  pub shows : Shows query steps db statement (timed [] statement.formats time) rows statement.returning
+  pub shows : Shows query steps db statement (timed [] statement.formats time) statement.returning rows
   pub named : names ≡ column_names statement
   pub within : length rows < steps
 
@@ -72,6 +84,96 @@ pub record AreAnswered (bytes query : List ℕ) (steps : ℕ) (rows : List (List
   pub answer : List Row
   pub is : IsAnswer query steps database names answer
   pub shown : rows ≡ shown_rows names answer
+
+-- ---- why there is no answer
+
+-- the text isn't one statement without parameters that doesn't read the time
+abbrev pub IsNoQuery : List ℕ → Database → Error → Type 0
+IsNoQuery query db error =
+    ((fault : CompileError) × (understood db.schema query ≡ Err fault) × (error ≡ SqlInputError fault))
+    ⊎ ((c : Compiled) × (understood db.schema query ≡ Ok c)
+    × (((¬ (length query ≤ c.tail)) × (error ≡ MultipleStatement)) ⊎ (((0 ≢ length c.names) × (error ≡ InvalidParameterCount 0 (length c.names))) ⊎ ((c.formats ≢ []) × (error ≡ SqliteFailure code.NoClock)))))
+
+-- the statement is one of transactions, which returns no rows
+abbrev pub IsOfTransaction : Command → Error → Type 0
+IsOfTransaction command error =
+    ((error ≡ SqliteFailure code.TransactionState) × ((command ≡ Begin) ⊎ ((command ≡ Commit) ⊎ (command ≡ Rollback))))
+    ⊎ ((error ≡ SqliteFailure code.NoSuchSavepoint) × (name : List ℕ) × ((command ≡ Release name) ⊎ (command ≡ RollbackTo name)))
+
+module _ (query : List ℕ) (steps : ℕ) (db : Database) (c : Compiled) (params : Row) where
+  -- it isn't read; or one that returns rows makes none, or one that is too big to be stored
+  abbrev pub Fails : Error → Option Returning → Type 0
+  Fails error None = (source : Database) × IsSourceOf (reads_listing db.schema query) db source × RefusesToRead (Some steps) c.command source params error
+  Fails error (Some what) =
+      Makes query steps db c params (Err (Some error)) ⊎ ((Makes query steps db c params (Err None) × (error ≡ SqliteFailure code.TooBig)) ⊎ IsOfTransaction c.command error)
+
+  -- it changes rows
+  abbrev pub Changes : Type 0
+  Changes = (tally : Tally) × (after : Database) × Makes query steps db c params (Ok (tally, after)) × (0 < unwrap_or tally.rows 0)
+
+-- the query isn't understood, or fails, with this error
+abbrev pub IsRefused : List ℕ → ℕ → Database → Error → Type 0
+IsRefused query steps db error = IsNoQuery query db error ⊎ ((c : Compiled) × Means query db c × (time : ℕ) × Fails query steps db c (timed [] c.formats time) error c.returning)
+
+abbrev pub IsChange : List ℕ → ℕ → Database → Type 0
+IsChange query steps db = (c : Compiled) × Means query db c × (time : ℕ) × Changes query steps db c (timed [] c.formats time)
+
+-- a row isn't UTF-8
+abbrev pub LacksText : List (List (List ℕ)) → QueryFault → Type 0
+LacksText rows (Encoding row) = ¬ AllText (slice_index_or rows row [])
+LacksText rows Memory = ⊤
+LacksText rows fault = ⊥
+
+-- texts are no row of this number
+abbrev pub IsFaultOfRow : ℕ → List (List ℕ) → QueryFault → Type 0
+IsFaultOfRow row texts (Encoding at) = (at ≡ row) × ¬ AllText texts
+IsFaultOfRow row texts Memory = ⊤
+IsFaultOfRow row texts fault = ⊥
+
+-- why a query has no answer, unless memory was refused
+abbrev pub LacksAnswer : List ℕ → ℕ → Database → QueryFault → Type 0
+LacksAnswer query steps db (Refused error) = IsRefused query steps db error
+LacksAnswer query steps db (Limit most) = (most ≡ steps) × IsRefused query steps db (SqliteFailure code.OperationInterrupted)
+LacksAnswer query steps db Change = IsChange query steps db
+LacksAnswer query steps db (Encoding row) = (names : List (List ℕ)) × (answer : List Row) × IsAnswer query steps db names answer × LacksText (shown_rows names answer) (Encoding row)
+LacksAnswer query steps db Memory = ⊤
+
+-- why bytes aren't opened as a database, unless memory was refused
+abbrev pub IsUnopened : List ℕ → SqlFault → Type 0
+IsUnopened bytes sql.Database = HoldsNone bytes
+IsUnopened bytes sql.Damage = HoldsNone bytes
+IsUnopened bytes sql.Memory = ⊤
+IsUnopened bytes fault = ⊥
+
+-- why a query has no answer of them
+abbrev pub LacksRows : List ℕ → List ℕ → ℕ → SqlFault → Type 0
+LacksRows bytes query steps (sql.Query fault) = (db : Database) × IsHeld bytes db × LacksAnswer query steps db fault
+LacksRows bytes query steps fault = IsUnopened bytes fault
+
+-- ---- errors of `sqlite`
+
+-- memory was refused, or got bytes wrong
+abbrev pub is_memory : Error → Bool
+is_memory (SqliteFailure code.OutOfMemory) = true
+is_memory (SqliteFailure code.SystemIoFailure) = true
+is_memory (SqliteFailure code.DatabaseCorrupt) = true
+is_memory (SqliteFailure code.DiskFull) = true
+is_memory (SqliteFailure code.Closed) = true
+is_memory error = false
+
+-- a file in memory isn't opened, with this error, and memory got its bytes right or not
+abbrev pub IsFaultOfFile : Error → Bool → SqlFault → Type 0
+IsFaultOfFile error right sql.Database = error ≡ SqliteFailure code.NotADatabase
+IsFaultOfFile error right sql.Damage = (error ≡ SqliteFailure code.DatabaseCorrupt) × (right ≡ true)
+IsFaultOfFile error right sql.Memory = ⊤
+IsFaultOfFile error right fault = ⊥
+
+-- a query of so many steps fails with this error
+abbrev pub IsFaultOf : ℕ → Error → QueryFault → Type 0
+IsFaultOf steps error (Refused found) = (found ≡ error) × (is_memory error ≡ false) × (error ≢ SqliteFailure code.OperationInterrupted)
+IsFaultOf steps error (Limit most) = (most ≡ steps) × (error ≡ SqliteFailure code.OperationInterrupted)
+IsFaultOf steps error Memory = is_memory error ≡ true
+IsFaultOf steps error fault = ⊥
 
 -- ---- the pages of a database
 

@@ -1,5 +1,5 @@
--- The database that a table of rows fills, and the rows that a query reads from it.
-use Rattle.std.specs.Prelude.{◌≡◌, ◌⊎◌, ℕ, ◌+◌, ◌-◌, ◌==◌, ◌&&◌, ◌||◌, not, nat_le, nat_lt, Bool, true, List, [], ◌∷◌, ◌++◌, length, map, take, drop, position, nat_eq, slice_index_or, codes, decimal, chars, Option, Some, None, Ok, if◌then◌else◌}
+-- The database that a table of rows fills, and the rows that a query reads from it, or why it reads none.
+use Rattle.std.specs.Prelude.{◌≡◌, ◌⊎◌, ⊤, ℕ, ◌+◌, ◌-◌, ◌==◌, ◌&&◌, ◌||◌, not, nat_le, nat_lt, Bool, true, false, List, [], ◌∷◌, ◌++◌, length, map, take, drop, position, nat_eq, slice_index_or, codes, decimal, chars, Option, Some, None, Ok, Err, if◌then◌else◌}
 use Rattle.std.specs.Char.{encode_utf8}
 use Rattle.std.specs.Cmp.Lexicographic.{pointwise}
 use Rattle.std.specs.Int.{is_in_range}
@@ -9,10 +9,18 @@ use Rattle.sqlite_value.specs.Order.{Row}
 use Rattle.sqlite_value.specs.declared.value.Value.{Value}
 use Rattle.sqlite_value.specs.declared.value.Value.TheVariants.{Null, Text}
 use Rattle.sqlite_trees.specs.declared.memory.MemStore.{MemStore}
+use Rattle.sqlite_resolve.specs.declared.error.CompileError.TheVariants.{NoSuchTable}
+use Rattle.sqlite.specs.Effect.{Database}
 use Rattle.sqlite.specs.Held.{Held, IsNew, state}
 use Rattle.sqlite.specs.State.{Executes}
 use Rattle.sqlite.specs.Steps.{IsEmpty, over_memory}
-use Rattle.ruled_sql.specs.Answers.{IsAnswer, shown_rows}
+use Rattle.sqlite.specs.declared.error.Error.{Error}
+use Rattle.sqlite.specs.declared.error.Error.TheVariants.{SqlInputError}
+use Rattle.ruled_sql.specs.Answers.{IsAnswer, LacksAnswer, is_memory, shown_rows}
+use Rattle.ruled_sql.specs.declared.fault.QueryFault.{QueryFault}
+use Rattle.ruled_sql.specs.declared.fault.QueryFault.TheVariants.{Refused}
+use Rattle.ruled_sql.specs.declared.fault.SqlFault.{SqlFault}
+use Rattle.ruled_sql.specs.declared.fault.SqlFault.TheVariants as sql
 
 -- ---- numbers
 
@@ -120,9 +128,13 @@ values_of count fields = map (λ place. value_of (slice_index_or fields place []
 abbrev pub insertions : List ℕ → ℕ → List (List (List ℕ)) → List Step
 insertions text count records = map (λ fields. (text, values_of count fields)) records
 
+-- those that fill a table
+abbrev pub fillings : List ℕ → ℕ → List (List (List ℕ)) → List Step
+fillings table count records = insertions (insert_text table count) count records ++ (settle_text table, []) ∷ []
+
 -- the statements that make a table and fill it
 abbrev pub filling : List ℕ → List ℕ → ℕ → List (List (List ℕ)) → List Step
-filling table columns count records = (create_text table columns, []) ∷ (insertions (insert_text table count) count records ++ (settle_text table, []) ∷ [])
+filling table columns count records = (create_text table columns, []) ∷ fillings table count records
 
 -- those for rows, of which row 0 has the names of the columns
 abbrev pub steps : List ℕ → List (List (List ℕ)) → List Step
@@ -134,10 +146,19 @@ steps table (names ∷ records) = filling table (columns_text names records) (le
 abbrev pub IsRun : Step → Held MemStore → Held MemStore → Type 0
 IsRun step old new = (count : ℕ) × Executes step.0 step.1 (state over_memory old) (state over_memory new) (Ok count)
 
+-- it fails with this error
+abbrev pub IsStuck : Step → Held MemStore → Error → Type 0
+IsStuck step old error = (new : Held MemStore) × Executes step.0 step.1 (state over_memory old) (state over_memory new) (Err error)
+
 -- each in turn
 abbrev pub AreRun : List Step → Held MemStore → Held MemStore → Type 0
 AreRun [] old new = new ≡ old
 AreRun (step ∷ others) old new = (mid : Held MemStore) × IsRun step old mid × AreRun others mid new
+
+-- each in turn, up to one that fails
+abbrev pub AreCut : List Step → Held MemStore → Error → Type 0
+AreCut [] old error = ⊥
+AreCut (step ∷ others) old error = IsStuck step old error ⊎ ((mid : Held MemStore) × IsRun step old mid × AreCut others mid error)
 
 -- nothing has been done to it
 pub record IsBlank (connection : Held MemStore) : Type 0 where
@@ -147,6 +168,10 @@ pub record IsBlank (connection : Held MemStore) : Type 0 where
 -- the steps lead to it from an empty database
 abbrev pub IsFilled : List Step → Held MemStore → Type 0
 IsFilled all connection = (blank : Held MemStore) × IsBlank blank × AreRun all blank connection
+
+-- they don't
+abbrev pub IsUnfilled : List Step → Error → Type 0
+IsUnfilled all error = (blank : Held MemStore) × IsBlank blank × AreCut all blank error
 
 -- the rows that a query answers of a table of rows, which has this name or is called `input`, in so many steps at most
 pub record AreQueried (name : List ℕ) (table : List (List (List ℕ))) (query : List ℕ) (most : ℕ) (rows : List (List (List ℕ))) : Type 0 where
@@ -158,3 +183,33 @@ pub record AreQueried (name : List ℕ) (table : List (List (List ℕ))) (query 
   pub answer : List Row
   pub is : IsAnswer query most (state over_memory connection).now names answer
   pub shown : rows ≡ shown_rows names answer
+
+-- ---- why it answers none
+
+-- the steps lead to no table, unless memory was refused
+abbrev pub LacksTable : List Step → SqlFault → Type 0
+LacksTable all (sql.Columns error) = IsUnfilled all error
+LacksTable all sql.Memory = ⊤
+LacksTable all fault = ⊥
+
+abbrev pub IsFaultOfStep : Error → SqlFault → Type 0
+IsFaultOfStep error (sql.Columns found) = (found ≡ error) × (is_memory error ≡ false)
+IsFaultOfStep error sql.Memory = ⊤
+IsFaultOfStep error fault = ⊥
+
+abbrev pub names_no_table : QueryFault → Bool
+names_no_table (Refused (SqlInputError NoSuchTable)) = true
+names_no_table fault = false
+
+-- the query is asked of a database that the table fills
+abbrev pub IsAsked : List ℕ → List (List (List ℕ)) → (Database → Type 0) → Type 0
+IsAsked name table Lacks = (called : List ℕ) × ((called ≡ name) ⊎ (called ≡ codes "input")) × (connection : Held MemStore) × IsFilled (steps called table) connection × Lacks (state over_memory connection).now
+
+-- why a query has no answer of a table of rows, unless memory was refused
+abbrev pub LacksQueried : List ℕ → List (List (List ℕ)) → List ℕ → ℕ → SqlFault → Type 0
+LacksQueried name table query most sql.NoRows = table ≡ []
+LacksQueried name table query most (sql.Columns error) = (called : List ℕ) × ((called ≡ name) ⊎ (called ≡ codes "input")) × IsUnfilled (steps called table) error
+LacksQueried name table query most sql.NoTable = IsAsked name table (λ db. (fault : QueryFault) × (names_no_table fault ≡ true) × LacksAnswer query most db fault)
+LacksQueried name table query most (sql.Query fault) = (names_no_table fault ≡ false) × IsAsked name table (λ db. LacksAnswer query most db fault)
+LacksQueried name table query most sql.Memory = ⊤
+LacksQueried name table query most fault = ⊥

@@ -2,19 +2,19 @@
 use Rattle.std.specs.Prelude.{◌++◌, ℕ, Bool, true, false, List, Option, Some, None, codes, decimal, is_some, option_map, if◌then◌else◌}
 use Rattle.std.specs.Option.{option_or}
 use Rattle.ruled_sql.specs.declared.fault.QueryFault.{QueryFault}
-use Rattle.ruled_sql.specs.declared.fault.QueryFault.TheVariants.{Refused, Change, Encoding, Memory}
+use Rattle.ruled_sql.specs.declared.fault.QueryFault.TheVariants.{Refused, Limit, Change, Encoding, Memory}
 use Rattle.ruled_sql.specs.declared.fault.SqlFault.{SqlFault}
 use Rattle.ruled_sql.specs.declared.fault.SqlFault.TheVariants as sql
 use Rattle.ruled_sql.specs.Lacks.{Lack, lack_in}
 use Rattle.sqlite.specs.declared.error.Error.TheVariants.{SqlInputError, SqliteFailure}
-use Rattle.sqlite.specs.declared.error.ErrorCode.TheVariants.{NoClock, OperationInterrupted}
+use Rattle.sqlite.specs.declared.error.ErrorCode.TheVariants.{NoClock}
 use Rattle.sqlite_resolve.specs.declared.error.CompileError.TheVariants.{Exists, NoSuchFunction, Parse, Unsupported}
 use Rattle.sqlite_syntax.specs.declared.error.ParseError.TheVariants as parse
 
 -- what an error of `sqlite` writes isn't known
 abbrev pub query_fault_text : QueryFault → Option (List ℕ)
-query_fault_text (Refused (SqliteFailure OperationInterrupted)) = Some (codes "the query takes too many steps; see --limit-steps")
 query_fault_text (Refused error) = None
+query_fault_text (Limit steps) = Some (codes "the query takes more than " ++ (decimal steps ++ codes " steps; see --limit-steps"))
 query_fault_text Change = Some (codes "the query changes the database")
 query_fault_text (Encoding row) = Some (codes "row " ++ (decimal row ++ codes ": not UTF-8"))
 query_fault_text Memory = Some (codes "out of memory")

@@ -1,17 +1,15 @@
 //! A database over bytes in memory.
 
-ghost use Rattle.std.specs.Prelude.{◌≡◌, Err, IfOk, IsTrue};
+ghost use Rattle.std.specs.Prelude.{◌≡◌, IfErr, IfOk, IsTrue};
 ghost use Rattle.sqlite.specs.Files.{IsOpened, file_state};
 ghost use Rattle.sqlite.specs.Held.{IsNew, state};
 ghost use Rattle.sqlite.specs.Start.{FindsIn};
 ghost use Rattle.sqlite.specs.State.{HasCleanDisk};
-ghost use Rattle.sqlite.specs.declared.error.Error.TheVariants.{SqliteFailure};
-ghost use Rattle.sqlite.specs.declared.error.ErrorCode.TheVariants.{NotADatabase};
 ghost use Rattle.sqlite_disk.specs.Memory.{memory_bytes, memory_is_usable};
-ghost use Rattle.ruled_sql.specs.Answers.{HoldsNone, IsAnswer, image_of, kept_pages};
+ghost use Rattle.ruled_sql.specs.Answers.{IsAnswer, IsFaultOf, IsFaultOfFile, IsUnopened, LacksAnswer, image_of, kept_pages};
 ghost use Rattle.ruled_sql.specs.declared.fault.SqlFault.{SqlFault};
 
-use crate::fault::{QueryFault, SqlFault};
+use crate::fault::{QueryFault, SqlFault, is_memory};
 use sqlite::{Alter, Connection, Error, ErrorCode, FileStore, Files, Options, Row, Statement};
 use sqlite_disk::{Disk, Memory};
 use std::alloc::Global;
@@ -20,7 +18,7 @@ use std::alloc::Global;
 fn copy_of(alloc: Global, bytes: &[u8]) -> Result<Memory, SqlFault>
     ensures bytes { IfOk result (λ copy. memory_bytes copy ≡ bytes.now) }
     ensures usable { IfOk result (λ copy. IsTrue (memory_is_usable copy)) }
-    ensures memory { (fault : SqlFault) → result ≡ Err fault → fault ≡ SqlFault.Memory }
+    ensures memory { IfErr result (λ fault. fault ≡ SqlFault.Memory) }
 {
     let mut copy = Memory::new(alloc);
     match copy.write_at(0, bytes) {
@@ -29,13 +27,13 @@ fn copy_of(alloc: Global, bytes: &[u8]) -> Result<Memory, SqlFault>
     }
 }
 
-// Why a file in memory can't be opened. Of one that can, nothing but memory fails.
-fn fault_of(error: Error) -> SqlFault
-    ensures none { result ≡ SqlFault.Database → error ≡ SqliteFailure NotADatabase }
+// Why a file in memory can't be opened, if memory got its bytes right. Of one that can, nothing but memory fails.
+fn fault_of_file(error: Error, is_right: bool) -> SqlFault
+    ensures { IsFaultOfFile error is_right result }
 {
     match error {
         Error::SqliteFailure(ErrorCode::NotADatabase) => SqlFault::Database,
-        Error::SqliteFailure(ErrorCode::DatabaseCorrupt) => SqlFault::Damage,
+        Error::SqliteFailure(ErrorCode::DatabaseCorrupt) if is_right => SqlFault::Damage,
         _ => SqlFault::Memory,
     }
 }
@@ -57,15 +55,35 @@ pub(crate) fn open(alloc: Global, bytes: &[u8]) -> Result<Connection<FileStore<M
     ensures opened { IfOk result (λ c. IsOpened c) }
     ensures found { IfOk result (λ c. FindsIn (image_of bytes.now) (file_state c)) }
     ensures fresh { IfOk result IsNew }
-    ensures none { result ≡ Err SqlFault.Database → HoldsNone bytes.now }
+    ensures fault { IfErr result (IsUnopened bytes.now) }
 {
     let db = copy_of(alloc, bytes)?;
-    let log = Memory::new(alloc);
+    let files = Files {
+        log: Memory::new(alloc),
+        db,
+    };
+    let caught = files.tally().caught;
     let mut options = Options::new(1);
     options.cache_pages = kept_pages(bytes);
-    match Connection::open_files(alloc, Files { log, db }, options) {
+    match Connection::open_files(alloc, files, options) {
         Ok(connection) => Ok(connection),
-        Err((error, _)) => Err(fault_of(error)),
+        Err((error, left)) => {
+            let is_right = left.into_files().tally().caught == caught;
+            Err(fault_of_file(error, is_right))
+        }
+    }
+}
+
+// Why a query of so many steps fails. Memory never gets bytes wrong.
+fn fault_of(error: Error, steps: u64) -> QueryFault
+    ensures { IsFaultOf steps error result }
+{
+    if is_memory(error) {
+        return QueryFault::Memory;
+    }
+    match error {
+        Error::SqliteFailure(ErrorCode::OperationInterrupted) => QueryFault::Limit(steps),
+        _ => QueryFault::Refused(error),
     }
 }
 
@@ -83,12 +101,20 @@ pub(crate) fn answer_of<S: Alter>(
     query: &str,
     steps: u64,
 ) -> Result<Answer, QueryFault>
-    ensures { HasCleanDisk (state S.Store connection.new) → connection.old.changes ≡ 0
+    ensures answer { HasCleanDisk (state S.Store connection.new) → connection.old.changes ≡ 0
         → IfOk result (λ it. IsAnswer query.now steps (state S.Store connection.old).now it.statement.columns it.rows.items) }
+    ensures fault { HasCleanDisk (state S.Store connection.new) → connection.old.changes ≡ 0
+        → IfErr result (LacksAnswer query.now steps (state S.Store connection.old).now) }
 {
     connection.set_step_limit(Some(steps));
-    let statement = connection.prepare(query)?;
-    let rows = statement.query_all(connection, &[])?;
+    let statement = match connection.prepare(query) {
+        Ok(statement) => statement,
+        Err(error) => return Err(fault_of(error, steps)),
+    };
+    let rows = match statement.query_all(connection, &[]) {
+        Ok(rows) => rows,
+        Err(error) => return Err(fault_of(error, steps)),
+    };
     if connection.changes() > 0 {
         return Err(QueryFault::Change);
     }

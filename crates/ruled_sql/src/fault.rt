@@ -1,6 +1,7 @@
 //! Why a query has no rows.
 
 ghost use Rattle.std.specs.Prelude.{◌≡◌};
+ghost use Rattle.ruled_sql.specs.Answers.{is_memory};
 ghost use Rattle.ruled_sql.specs.Words.{query_fault_text, sql_fault_text};
 ghost use Rattle.ruled_sql.specs.declared.fault.QueryFault.{QueryFault};
 ghost use Rattle.ruled_sql.specs.declared.fault.SqlFault.{SqlFault};
@@ -17,6 +18,8 @@ use std::fmt::Display;
 pub enum QueryFault {
     /// It isn't understood, or fails, with this error.
     Refused(Error),
+    /// It takes more steps than this.
+    Limit(u64),
     /// It changes the database.
     Change,
     /// This row, of which the names are row 0, has a text that isn't UTF-8.
@@ -34,7 +37,7 @@ pub enum SqlFault {
     Damage,
     /// There is no row 0 that names the columns of a table.
     NoRows,
-    /// The names of row 0 can't be those of the columns of one table, as this error says.
+    /// The rows make no table, as this error says: for the names of row 0, or for a row that is too long.
     Columns(Error),
     /// The query names another table than that of the rows.
     NoTable,
@@ -42,6 +45,22 @@ pub enum SqlFault {
     Query(QueryFault),
     /// Out of memory, before the query was read.
     Memory,
+}
+
+/// Whether memory was refused, or got bytes wrong.
+pub(crate) fn is_memory(error: Error) -> bool
+    ensures { result ≡ is_memory error }
+{
+    matches!(
+        error,
+        Error::SqliteFailure(
+            ErrorCode::OutOfMemory
+                | ErrorCode::SystemIoFailure
+                | ErrorCode::DatabaseCorrupt
+                | ErrorCode::DiskFull
+                | ErrorCode::Closed
+        )
+    )
 }
 
 impl From<AllocError> for QueryFault {
@@ -68,15 +87,6 @@ impl From<AllocError> for SqlFault {
     }
 }
 
-impl From<Error> for QueryFault {
-    fn from(error: Error) -> QueryFault {
-        match error {
-            Error::SqliteFailure(ErrorCode::OutOfMemory) => QueryFault::Memory,
-            _ => QueryFault::Refused(error),
-        }
-    }
-}
-
 impl From<QueryFault> for SqlFault {
     ghost from_gives = { λ found fault. fault ≡ Query found };
 
@@ -91,8 +101,11 @@ impl Display for QueryFault {
 
     fn fmt<W: fmt::Write>(&self, f: &mut fmt::Formatter<W>) -> fmt::Result {
         match self {
-            QueryFault::Refused(Error::SqliteFailure(ErrorCode::OperationInterrupted)) => {
-                f.write_str("the query takes too many steps; see --limit-steps")
+            QueryFault::Limit(steps) => {
+                write!(
+                    f,
+                    "the query takes more than {steps} steps; see --limit-steps"
+                )
             }
             QueryFault::Refused(Error::SqlInputError(error)) => {
                 write!(

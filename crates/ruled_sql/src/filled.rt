@@ -1,13 +1,13 @@
 //! A database that rows fill.
 
-ghost use Rattle.std.specs.Prelude.{◌≡◌, ◌≢◌, ◌⊎◌, [], ◌∷◌, codes, map, IfErr, IfOk, OnOk};
+ghost use Rattle.std.specs.Prelude.{◌≡◌, ◌⊎◌, [], ◌∷◌, codes, false, map, IfErr, IfOk, OnOk};
 ghost use Rattle.csv.specs.Records.{fields_of};
 ghost use Rattle.sqlite.specs.Values.{bound, bound_value};
 ghost use Rattle.sqlite_value.specs.Value.{owned};
+ghost use Rattle.ruled_sql.specs.Answers.{is_memory};
 ghost use Rattle.ruled_sql.specs.Filled as spec;
-ghost use Rattle.ruled_sql.specs.declared.fault.SqlFault.{SqlFault};
 
-use crate::fault::{QueryFault, SqlFault};
+use crate::fault::{SqlFault, is_memory};
 use crate::statements::{columns_text, create_text, field_at, insert_text, settle_text};
 use csv::StringRecord;
 use sqlite::{Connection, Error};
@@ -48,10 +48,13 @@ fn run(
     text: &str,
     values: &[ValueRef<'_>],
 ) -> Result<(), Error>
-    ensures { OnOk result (spec.IsRun (text.now, bound values.now) connection.old connection.new) }
+    ensures runs { OnOk result (spec.IsRun (text.now, bound values.now) connection.old connection.new) }
+    ensures fails { IfErr result (spec.IsStuck (text.now, bound values.now) connection.old) }
 {
-    connection.execute(text, values)?;
-    Ok(())
+    match connection.execute(text, values) {
+        Ok(_) => Ok(()),
+        Err(error) => Err(error),
+    }
 }
 
 // Puts a row into a table.
@@ -61,12 +64,12 @@ fn insert_row(
     text: &str,
     count: usize,
     fields: &StringRecord,
-) -> Result<(), QueryFault>
-    ensures { OnOk result (spec.IsRun (text.now, spec.values_of count (fields_of fields.now)) connection.old connection.new) }
+) -> Result<(), Error>
+    ensures runs { OnOk result (spec.IsRun (text.now, spec.values_of count (fields_of fields.now)) connection.old connection.new) }
+    ensures fails { IfErr result (λ error. is_memory error ≡ false → spec.IsStuck (text.now, spec.values_of count (fields_of fields.now)) connection.old error) }
 {
     let values = values_of(alloc, fields, count)?;
-    run(connection, text, &values)?;
-    Ok(())
+    run(connection, text, &values)
 }
 
 // Puts rows into a table.
@@ -76,8 +79,9 @@ fn insert_rows(
     text: &str,
     count: usize,
     records: &[StringRecord],
-) -> Result<(), QueryFault>
-    ensures { OnOk result (spec.AreRun (spec.insertions text.now count (map fields_of records.now)) connection.old connection.new) }
+) -> Result<(), Error>
+    ensures runs { OnOk result (spec.AreRun (spec.insertions text.now count (map fields_of records.now)) connection.old connection.new) }
+    ensures fails { IfErr result (λ error. is_memory error ≡ false → spec.AreCut (spec.insertions text.now count (map fields_of records.now)) connection.old error) }
 {
     for fields in records {
         insert_row(alloc, connection, text, count, fields)?;
@@ -85,20 +89,37 @@ fn insert_rows(
     Ok(())
 }
 
-// Why a table of these columns can't be made.
-fn fault_of(error: Error) -> SqlFault
-    ensures { result ≢ SqlFault.NoRows }
+// Puts rows into a table, of which no row counts as changed then.
+fn fill(
+    alloc: Global,
+    connection: &mut Connection<MemStore>,
+    table: &str,
+    count: usize,
+    records: &[StringRecord],
+) -> Result<(), Error>
+    ensures runs { OnOk result (spec.AreRun (spec.fillings table.now count (map fields_of records.now)) connection.old connection.new) }
+    ensures fails { IfErr result (λ error. is_memory error ≡ false → spec.AreCut (spec.fillings table.now count (map fields_of records.now)) connection.old error) }
 {
-    match QueryFault::from(error) {
-        QueryFault::Refused(error) => SqlFault::Columns(error),
-        fault => SqlFault::Query(fault),
+    let insertion = insert_text(alloc, table, count)?;
+    insert_rows(alloc, connection, insertion.as_str(), count, records)?;
+    let settling = settle_text(alloc, table)?;
+    run(connection, settling.as_str(), &[])
+}
+
+// Why a table can't be made or filled.
+fn fault_of(error: Error) -> SqlFault
+    ensures { spec.IsFaultOfStep error result }
+{
+    if is_memory(error) {
+        return SqlFault::Memory;
     }
+    SqlFault::Columns(error)
 }
 
 // A database with an empty table, which this statement makes.
 fn created(alloc: Global, text: &str) -> Result<Connection<MemStore>, SqlFault>
     ensures made { IfOk result (spec.IsFilled ((text.now, []) ∷ [])) }
-    ensures others { IfErr result (λ fault. fault ≢ SqlFault.NoRows) }
+    ensures fault { IfErr result (spec.LacksTable ((text.now, []) ∷ [])) }
 {
     let mut connection = Connection::open_in_memory(alloc)?;
     match run(&mut connection, text, &[]) {
@@ -143,18 +164,13 @@ pub(crate) fn filled(
     records: &[StringRecord],
 ) -> Result<Connection<MemStore>, SqlFault>
     ensures filled { IfOk result (spec.IsFilled (spec.filling table.now columns.now count (map fields_of records.now))) }
-    ensures others { IfErr result (λ fault. fault ≢ SqlFault.NoRows) }
+    ensures fault { IfErr result (spec.LacksTable (spec.filling table.now columns.now count (map fields_of records.now))) }
     ensures uncounted { IfOk result (λ made. made.changes ≡ 0) }
 {
     let mut connection = created(alloc, create_text(alloc, table, columns)?.as_str())?;
-    let insertion = insert_text(alloc, table, count)?;
-    insert_rows(alloc, &mut connection, insertion.as_str(), count, records)?;
-    let settling = settle_text(alloc, table)?;
-    if let Err(error) = run(&mut connection, settling.as_str(), &[]) {
-        return Err(fault_of(error));
+    match fill(alloc, &mut connection, table, count, records) {
+        Err(error) => Err(fault_of(error)),
+        Ok(()) if connection.changes() > 0 => Err(SqlFault::Memory),
+        Ok(()) => Ok(connection),
     }
-    if connection.changes() > 0 {
-        return Err(SqlFault::Memory);
-    }
-    Ok(connection)
 }

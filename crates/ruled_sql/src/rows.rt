@@ -1,11 +1,11 @@
 //! The rows of an answer, as texts.
 
-ghost use Rattle.std.specs.Prelude.{◌≡◌, ◌≢◌, [], map, Err, IfOk};
+ghost use Rattle.std.specs.Prelude.{◌≡◌, ◌≢◌, [], map, Err, IfErr, IfOk, if◌then◌else◌};
 ghost use Rattle.csv.specs.Records.{fields_of};
 ghost use Rattle.ruled_database.specs.Values.{shown_text};
-ghost use Rattle.ruled_sql.specs.Answers.{AreAnswered, HoldsNone, shown_rows};
-ghost use Rattle.ruled_sql.specs.Filled.{AreQueried};
-ghost use Rattle.ruled_sql.specs.declared.fault.SqlFault.TheVariants.{Database, NoRows};
+ghost use Rattle.ruled_sql.specs.Answers.{AreAnswered, HoldsNone, IsFaultOfRow, LacksRows, LacksText, shown_rows};
+ghost use Rattle.ruled_sql.specs.Filled.{AreQueried, LacksQueried, names_no_table};
+ghost use Rattle.ruled_sql.specs.declared.fault.SqlFault.TheVariants.{Database, NoRows, NoTable, Query};
 
 use crate::database::{answer_of, open};
 use crate::fault::{QueryFault, SqlFault};
@@ -20,7 +20,8 @@ use std::alloc::Global;
 
 // The texts as a row of this number.
 fn row_of(texts: ByteRecord, row: usize) -> Result<StringRecord, QueryFault>
-    ensures { IfOk result (λ fields. fields_of fields ≡ fields_of texts) }
+    ensures fields { IfOk result (λ fields. fields_of fields ≡ fields_of texts) }
+    ensures fault { IfErr result (IsFaultOfRow row (fields_of texts)) }
 {
     match StringRecord::from_byte_record(texts) {
         Ok(fields) => Ok(fields),
@@ -30,7 +31,8 @@ fn row_of(texts: ByteRecord, row: usize) -> Result<StringRecord, QueryFault>
 
 // The names of the columns.
 fn header_of(alloc: Global, names: &[Bytes]) -> Result<StringRecord, QueryFault>
-    ensures { IfOk result (λ fields. fields_of fields ≡ names.now) }
+    ensures fields { IfOk result (λ fields. fields_of fields ≡ names.now) }
+    ensures fault { IfErr result (IsFaultOfRow 0 names.now) }
 {
     let mut texts = ByteRecord::new(alloc);
     for name in names {
@@ -41,11 +43,12 @@ fn header_of(alloc: Global, names: &[Bytes]) -> Result<StringRecord, QueryFault>
 
 // The values of a row.
 fn fields_in(alloc: Global, row: usize, values: &Row) -> Result<StringRecord, QueryFault>
-    ensures { IfOk result (λ fields. fields_of fields ≡ map shown_text values.now) }
+    ensures fields { IfOk result (λ fields. fields_of fields ≡ map shown_text values.now) }
+    ensures fault { IfErr result (IsFaultOfRow row (map shown_text values.now)) }
 {
     let mut texts = ByteRecord::new(alloc);
     for at in 0..values.column_count() {
-        let value = values.get_ref(at)?;
+        let value = values.get_ref(at).unwrap();
         push_value(alloc, &mut texts, value)?;
     }
     row_of(texts, row)
@@ -53,7 +56,8 @@ fn fields_in(alloc: Global, row: usize, values: &Row) -> Result<StringRecord, Qu
 
 // The rows of an answer, with the names of the columns as row 0.
 fn rows_in(alloc: Global, names: &[Bytes], answer: &[Row]) -> Result<Vec<StringRecord>, QueryFault>
-    ensures { IfOk result (λ rows. map fields_of rows.items ≡ shown_rows names.now answer.now) }
+    ensures rows { IfOk result (λ rows. map fields_of rows.items ≡ shown_rows names.now answer.now) }
+    ensures fault { IfErr result (LacksText (shown_rows names.now answer.now)) }
 {
     let mut rows = Vec::new(alloc);
     let header = header_of(alloc, names)?;
@@ -79,6 +83,7 @@ pub fn query_rows(
 ) -> Result<Vec<StringRecord>, SqlFault>
     ensures rows { IfOk result (λ rows. AreAnswered bytes.now query.now steps (map fields_of rows.items)) }
     ensures none { result ≡ Err Database → HoldsNone bytes.now }
+    ensures fault { IfErr result (LacksRows bytes.now query.now steps) }
 {
     let mut connection = open(alloc, bytes)?;
     let answer = answer_of(&mut connection, query, steps)?;
@@ -88,7 +93,8 @@ pub fn query_rows(
 
 // Why a query of one table has no rows.
 fn fault_of_table(fault: QueryFault) -> SqlFault
-    ensures { result ≢ NoRows }
+    ensures rows { result ≢ NoRows }
+    ensures fault { result ≡ (if names_no_table fault then NoTable else Query fault) }
 {
     match fault {
         QueryFault::Refused(Error::SqlInputError(CompileError::NoSuchTable)) => SqlFault::NoTable,
@@ -111,6 +117,7 @@ pub fn query_table(
 ) -> Result<Vec<StringRecord>, SqlFault>
     ensures rows { IfOk result (λ answer. AreQueried name.now (map fields_of rows.now) query.now steps (map fields_of answer.items)) }
     ensures none { result ≡ Err NoRows → rows.now ≡ [] }
+    ensures fault { IfErr result (LacksQueried name.now (map fields_of rows.now) query.now steps) }
 {
     let [names, records @ ..] = rows else {
         return Err(SqlFault::NoRows);

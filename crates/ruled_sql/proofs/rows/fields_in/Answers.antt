@@ -1,16 +1,17 @@
 use Rattle.std.proofs.Common.{◌≡◌, ◌∙◌, ◌++◌, ◌∷◌, [], ℕ, List, length, map, ap, subst, arith}
-use Rattle.std.specs.Prelude.{IfOk}
+use Rattle.std.specs.Prelude.{IfErr, IfOk}
 use Rattle.std.proofs.lemmas.List.{take_all}
 use Rattle.csv.specs.Records.{Row as Fields, fields_of}
 use Rattle.sqlite_value.specs.Value.{owned}
 use Rattle.ruled_database.specs.Values.{shown_text}
+use Rattle.ruled_sql.specs.Answers.{IsFaultOfRow}
 use Rattle.ruled_sql.proofs.Answering.{value_more}
 use Rattle.ruled_sql.proofs.rows.fields_in.Goals as goal
 
 pub loop-at-preserved : goal.loop-at-preserved
 loop-at-preserved c =
-    let found = c.in_ok-value.ensures.ok in
-    let value = owned c.in_ok-value.value in
+    let found = rw c.unwrap-value.ensures at c.get_ref.ensures.ok in
+    let value = owned c.unwrap-value.result in
     let old = fields_of c.loop-at.texts in
     let pushed : fields_of c.push_value.new.texts ≡ old ++ shown_text value ∷ [] =
     c.in_ok-push_value.ensures.fields ∙ ap (λ (p : List ℕ). old ++ ((p ++ shown_text value) ∷ [])) c.loop-at.invariant.partial in
@@ -19,9 +20,16 @@ loop-at-preserved c =
       partial = c.in_ok-push_value.ensures.partial;
     }
 
-pub returns : goal.returns
-returns c =
+pub returns-clause-fields : goal.returns-clause-fields
+returns-clause-fields c =
     let values = c.args.values.now in
     let all : c.loop-at.at ≡ length values = omega (arith, c.loop-at-test.false, c.loop-at.auto.at-end, c.column_count-at-end.ensures) in
     let whole : fields_of c.loop-at.texts ≡ map shown_text values = c.loop-at.invariant.fields ∙ ap (map shown_text) (take_all c.loop-at.at values (omega (arith, all))) in
-    subst (λ (texts : List (List ℕ)). IfOk c.row_of.result (λ (fields : Fields). fields_of fields ≡ texts)) whole c.row_of.ensures
+    subst (λ (texts : List (List ℕ)). IfOk c.row_of.result (λ (fields : Fields). fields_of fields ≡ texts)) whole c.row_of.ensures.fields
+
+pub returns-clause-fault : goal.returns-clause-fault
+returns-clause-fault c =
+    let values = c.args.values.now in
+    let all : c.loop-at.at ≡ length values = omega (arith, c.loop-at-test.false, c.loop-at.auto.at-end, c.column_count-at-end.ensures) in
+    let whole : fields_of c.loop-at.texts ≡ map shown_text values = c.loop-at.invariant.fields ∙ ap (map shown_text) (take_all c.loop-at.at values (omega (arith, all))) in
+    subst (λ (texts : List (List ℕ)). IfErr c.row_of.result (IsFaultOfRow c.args.row texts)) whole c.row_of.ensures.fault
