@@ -102,7 +102,7 @@ const FLAG: Choice = Choice {
 };
 
 /// All arguments, in the order of the help.
-const CHOICES: [Choice; 34] = [
+const CHOICES: [Choice; 35] = [
     Choice {
         name: "file",
         value: "FILE",
@@ -145,6 +145,13 @@ const CHOICES: [Choice; 34] = [
         value: "NAME",
         takes: Takes::Text,
         help: "Print all rows of this table of an SQLite database; without it and --query, list the tables",
+        ..FLAG
+    },
+    Choice {
+        name: "at",
+        value: "PATH",
+        takes: Takes::Text,
+        help: "Print the rows of this member of a JSON value; a dot leads to a member of a member",
         ..FLAG
     },
     Choice {
@@ -432,15 +439,16 @@ enum Reading {
     Closing,
 }
 
-// The names of a list: commas separate them. A name that begins with a quote extends to the next one that isn't doubled.
-fn names_in(alloc: Global, list: &str) -> Result<Vec<String>, AllocError> {
+// The names of a list, with a comma or another sign between two. A name that begins with a quote extends to the next one that
+// isn't doubled.
+fn names_in(alloc: Global, list: &str, sign: char) -> Result<Vec<String>, AllocError> {
     let mut names = Vec::new(alloc);
     let (mut name, mut reading) = (String::new(alloc), Reading::Plain);
     for c in list.chars() {
         match (reading, c) {
             (Reading::Plain, '"') if name.is_empty() => reading = Reading::Quoted,
             (Reading::Quoted, '"') => reading = Reading::Closing,
-            (Reading::Plain | Reading::Closing, ',') => {
+            (Reading::Plain | Reading::Closing, c) if c == sign => {
                 names.push(mem::replace(&mut name, String::new(alloc)))?;
                 reading = Reading::Plain;
             }
@@ -455,17 +463,17 @@ fn names_in(alloc: Global, list: &str) -> Result<Vec<String>, AllocError> {
     Ok(names)
 }
 
-// The names that an option lists.
-fn names_of(alloc: Global, list: Option<&str>) -> Result<Vec<String>, AllocError> {
+// The names that an option lists, with this sign between two.
+fn names_of(alloc: Global, list: Option<&str>, sign: char) -> Result<Vec<String>, AllocError> {
     match list {
-        Some(list) => names_in(alloc, list),
+        Some(list) => names_in(alloc, list, sign),
         None => Ok(Vec::new(alloc)),
     }
 }
 
 // The words for the columns that are shown. If some ask for columns, that of the numbers is in front.
 fn columns_of(alloc: Global, found: &ArgMatches) -> Result<Vec<String>, AllocError> {
-    let mut words = names_of(alloc, found.get_str("columns"))?;
+    let mut words = names_of(alloc, found.get_str("columns"), ',')?;
     if found.get_flag("number") && words.iter().any(|word| !word.as_str().starts_with('!')) {
         words.insert(0, String::from_str(alloc, "#")?)?;
     }
@@ -569,8 +577,8 @@ fn view_of(
         has_header: !found.get_flag("no-header"),
         columns: columns_of(alloc, found)?,
         sides: sides_of(alloc, found.get_strs("align"))?,
-        missing: names_of(alloc, found.get_str("missing"))?,
-        names: names_of(alloc, found.get_str("names"))?,
+        missing: names_of(alloc, found.get_str("missing"), ',')?,
+        names: names_of(alloc, found.get_str("names"), ',')?,
         sort: sort_of(alloc, found.get_str("sort"))?,
         is_numbered: found.get_flag("number"),
         is_padded: is_padded(found),
@@ -605,7 +613,8 @@ fn table_of(
     let file = copy_of(alloc, name_in(found))?;
     let encoding = found.get_str("encoding").and_then(Encoding::by_name);
     let mut view = view_of(alloc, found, look, screen)?;
-    let source = selected(alloc, found, source, &mut view)?;
+    let path = names_of(alloc, found.get_str("at"), '.')?;
+    let source = selected(alloc, found, source, path, &mut view)?;
     Ok(Wanted {
         file,
         encoding,

@@ -164,7 +164,15 @@ fn separated(source: Source) -> Result<Source, &'static str> {
     }
 }
 
-/// What the input is, but for the words of a query or a table, or why it can't be.
+// An input of one JSON value.
+fn one_value(source: Source) -> Result<Source, &'static str> {
+    match source {
+        Source::Seen { .. } | Source::Rows(Format::Json) => Ok(Source::Rows(Format::Json)),
+        _ => Err("--at needs one JSON value"),
+    }
+}
+
+/// What the input is, but for the words of a query, a table or a path, or why it can't be.
 pub(crate) fn source_asked(found: &ArgMatches) -> Result<Source, &'static str> {
     let asked = kind_asked(found)?;
     let mut source = source_without_selection(found, asked)?;
@@ -173,6 +181,9 @@ pub(crate) fn source_asked(found: &ArgMatches) -> Result<Source, &'static str> {
     }
     if asks_for_lines(found) {
         source = separated(source)?;
+    }
+    if found.get_str("at").is_some() {
+        source = one_value(source)?;
     }
     source.set_rules(rules_asked(found)?);
     Ok(source)
@@ -213,17 +224,19 @@ fn table_named(file: Option<&str>) -> &str {
     }
 }
 
-// A query of what is known so of its rows. Names above rows are those of the columns that it reads.
+// A query of what is known so of its rows, of JSON at this path. Names above rows are those of the columns that it reads.
 fn query_of(
     alloc: Global,
     found: &ArgMatches,
     text: String,
     known: Option<Known>,
+    path: Vec<String>,
     view: &mut Options,
 ) -> Result<Query, AllocError> {
     Ok(Query {
         text,
         known,
+        path,
         table: String::from_str(alloc, table_named(name_in(found)))?,
         names: mem::replace(&mut view.names, Vec::new(alloc)),
         is_padded: mem::replace(&mut view.is_padded, false),
@@ -231,19 +244,21 @@ fn query_of(
     })
 }
 
-/// The source, with what is asked of it.
+/// The source, with what is asked of it. The rows are those of the member at this path, if it has names.
 pub(crate) fn selected(
     alloc: Global,
     found: &ArgMatches,
     source: Source,
+    path: Vec<String>,
     view: &mut Options,
 ) -> Result<Source, AllocError> {
     if let Some(text) = copy_of(alloc, found.get_str("query"))? {
-        let query = query_of(alloc, found, text, source.known_rows(), view)?;
+        let query = query_of(alloc, found, text, source.known_rows(), path, view)?;
         return Ok(database(Selection::Query(query)));
     }
     match copy_of(alloc, found.get_str("table"))? {
         Some(name) => Ok(database(Selection::Table(name))),
-        None => Ok(source),
+        None if path.is_empty() => Ok(source),
+        None => Ok(Source::Member(path)),
     }
 }

@@ -67,6 +67,7 @@ fn query_of(alloc: Global, text: String, known: Option<Known>) -> Result<Query, 
     Ok(Query {
         text,
         known,
+        path: Vec::new(alloc),
         table: "shop".to_string(alloc)?,
         names: Vec::new(alloc),
         is_padded: false,
@@ -80,6 +81,9 @@ fn select(alloc: Global, request: &mut Request, value: &str) -> Result<(), Alloc
     let mut query = query_of(alloc, text, request.source.known_rows())?;
     query.names = mem::replace(&mut request.view.names, Vec::new(alloc));
     query.is_padded = mem::replace(&mut request.view.is_padded, false);
+    if let Source::Member(path) = &mut request.source {
+        query.path = mem::replace(path, Vec::new(alloc));
+    }
     request.source = Source::Database {
         selection: Selection::Query(query),
         log: request.source.log(),
@@ -194,6 +198,17 @@ fn set_value(request: &mut Request, name: &str, value: &str) -> Option<()> {
     Some(())
 }
 
+// Adds a name to the path of the member of JSON that has the rows.
+fn push_name(alloc: Global, source: &mut Source, name: String) -> Result<(), AllocError> {
+    match source {
+        Source::Member(path) => Ok(path.push(name)?),
+        _ => {
+            *source = Source::Member(vec![in alloc; name]?);
+            Ok(())
+        }
+    }
+}
+
 /// Sets an option, and returns whether there is one of this name with this value.
 pub(crate) fn set_option(
     alloc: Global,
@@ -209,6 +224,10 @@ pub(crate) fn set_option(
     }
     if name == "select" {
         select(alloc, request, value)?;
+        return Ok(true);
+    }
+    if name == "at" {
+        push_name(alloc, &mut request.source, meant(alloc, value)?)?;
         return Ok(true);
     }
     if let Some(source) = source_set(alloc, request.source.log(), name, value)? {

@@ -20,7 +20,7 @@ use Rattle.ruled_io.specs.Formats.{content_of}
 use Rattle.ruled_io.specs.Input.{format_fault, input_fault, rows_in, rows_of}
 use Rattle.ruled_io.specs.Laws.{AllAreFirst, AtOnceShowsAsStreams, BothWaysFindOneFault, IsStreamable, ShowsEachRow, StreamsShowAsAtOnce}
 use Rattle.ruled_io.specs.Reading.{sound_rows, wrong_in}
-use Rattle.ruled_io.specs.Requests.{format_told, holds_database, rows_needed}
+use Rattle.ruled_io.specs.Requests.{format_told, holds_database, path_of, rows_needed}
 use Rattle.ruled_io.specs.Runs.{AreRows, AreRowsAs}
 use Rattle.ruled_io.specs.Stream.{first_count, first_plan, first_wrong, record_count, shown_text, streamed_count, streamed_fault, streamed_format, streamed_rows, streamed_wrong}
 use Rattle.ruled_io.specs.declared.fault.InputFault.TheVariants.{Stream}
@@ -36,20 +36,20 @@ use Rattle.ruled_io.proofs.SameLines.{fine-at-once, rows-at-once, same-fault}
 -- ---- the rows of a format
 
 -- where nothing is wrong with a stream, its rows are those at once
-same-rows : (records : ℕ) (bytes : List ℕ) (format : Format) → wrong_in format records bytes ≡ None
-    → (format_fault format bytes ≡ None) × (sound_rows format records bytes ≡ rows_of format bytes)
-same-rows records bytes (Separated dialect) none = (none, all-sound dialect bytes (unmapped fault_of_rows (rows_fault dialect bytes) none))
-same-rows records bytes Json none = absurd (cc)
-same-rows records bytes JsonLines none =
+same-rows : (records : ℕ) (path : List Text) (bytes : List ℕ) (format : Format) → wrong_in format records bytes ≡ None
+    → (format_fault path format bytes ≡ None) × (sound_rows format records bytes ≡ rows_of path format bytes)
+same-rows records path bytes (Separated dialect) none = (none, all-sound dialect bytes (unmapped fault_of_rows (rows_fault dialect bytes) none))
+same-rows records path bytes Json none = absurd (cc)
+same-rows records path bytes JsonLines none =
     let fine : streamed_line_fault records bytes ≡ None = unmapped fault_of_json (streamed_line_fault records bytes) none in
     (ap (option_map fault_of_json) (fine-at-once records bytes fine), rows-at-once records bytes fine)
 
 -- where the first rows are all, the same is wrong
-same-wrong : (options : Options) (count : ℕ) (bytes : List ℕ) (format : Format) → format ≢ Json → length (rows_of format bytes) ≤ first_count options format count
-    → wrong_in format (record_count count) bytes ≡ format_fault format bytes
-same-wrong options count bytes (Separated dialect) lines few = refl
-same-wrong options count bytes Json lines few = absurd (lines refl)
-same-wrong options count bytes JsonLines lines few = ap (option_map fault_of_json) (same-fault (record_count count) bytes (omega arith))
+same-wrong : (options : Options) (count : ℕ) (path : List Text) (bytes : List ℕ) (format : Format) → format ≢ Json → length (rows_of path format bytes) ≤ first_count options format count
+    → wrong_in format (record_count count) bytes ≡ format_fault path format bytes
+same-wrong options count path bytes (Separated dialect) lines few = refl
+same-wrong options count path bytes Json lines few = absurd (lines refl)
+same-wrong options count path bytes JsonLines lines few = ap (option_map fault_of_json) (same-fault (record_count count) bytes (omega arith))
 
 -- ---- their table
 
@@ -117,6 +117,9 @@ module _ (request : Request) (count : ℕ) (bytes : List ℕ) (all : AllAreFirst
   abbrev known : Known
   known = format_told request.source
 
+  abbrev path : List Text
+  path = path_of request.source
+
   abbrev format : Format
   format = streamed_format request count bytes
 
@@ -127,37 +130,37 @@ module _ (request : Request) (count : ℕ) (bytes : List ℕ) (all : AllAreFirst
   first = streamed_count request count bytes
 
   -- both ways read it in one format
-  format-fault : input_fault None known bytes ≡ format_fault format content
-  format-fault = ap (λ (f : Format). format_fault f (content_of f bytes)) all.format
+  format-fault : input_fault None path known bytes ≡ format_fault path format content
+  format-fault = ap (λ (f : Format). format_fault path f (content_of f bytes)) all.format
 
-  format-rows : rows_in None known bytes ≡ rows_of format content
-  format-rows = ap (λ (f : Format). rows_of f (content_of f bytes)) all.format
+  format-rows : rows_in None path known bytes ≡ rows_of path format content
+  format-rows = ap (λ (f : Format). rows_of path f (content_of f bytes)) all.format
 
   held : (holds : Bool) → (if holds then Some (Stream Database) else wrong_in format (record_count count) content) ≡ None
       → AreRowsAs None holds request.source bytes (if holds then [] else sound_rows format (record_count count) content)
-      × ((if holds then [] else sound_rows format (record_count count) content) ≡ rows_in None known bytes)
+      × ((if holds then [] else sound_rows format (record_count count) content) ≡ rows_in None path known bytes)
   held true none = absurd (cc)
   held false none =
-      let (fine, same) = same-rows (record_count count) content format none in
-      let these : sound_rows format (record_count count) content ≡ rows_in None known bytes = same ∙ sym format-rows in
+      let (fine, same) = same-rows (record_count count) path content format none in
+      let these : sound_rows format (record_count count) content ≡ rows_in None path known bytes = same ∙ sym format-rows in
       ((format-fault ∙ fine, these), these)
 
   rows-are : streamed_wrong request count bytes ≡ None
-      → AreRows None request.source bytes (streamed_rows request count bytes) × (streamed_rows request count bytes ≡ rows_in None known bytes)
+      → AreRows None request.source bytes (streamed_rows request count bytes) × (streamed_rows request count bytes ≡ rows_in None path known bytes)
   unfolding streamed_rows streamed_wrong
   rows-are none = held (holds_database request.source bytes) none
 
-  few : (rows : List (List Text)) → rows ≡ rows_in None known bytes → length rows ≤ first
+  few : (rows : List (List Text)) → rows ≡ rows_in None path known bytes → length rows ≤ first
   few rows are = subst (λ (n : ℕ). n ≤ first) (ap length (sym are)) all.rows
 
-  wrong-is : IsStreamable request count bytes → streamed_wrong request count bytes ≡ input_fault None known bytes
+  wrong-is : IsStreamable request count bytes → streamed_wrong request count bytes ≡ input_fault None path known bytes
   unfolding streamed_wrong
   wrong-is (file, lines) =
       ap (λ (holds : Bool). if holds then Some (Stream Database) else wrong_in format (record_count count) content) file
-      ∙ same-wrong request.view count content format lines (few (rows_of format content) (sym format-rows)) ∙ sym format-fault
+      ∙ same-wrong request.view count path content format lines (few (rows_of path format content) (sym format-rows)) ∙ sym format-fault
 
   -- where nothing is wrong, the stream of these rows is what is shown
-  module _ (none : streamed_wrong request count bytes ≡ None) (rows : List (List Text)) (are : rows ≡ rows_in None known bytes) where
+  module _ (none : streamed_wrong request count bytes ≡ None) (rows : List (List Text)) (are : rows ≡ rows_in None path known bytes) where
     same : streamed_rows request count bytes ≡ rows
     same = (rows-are none).1 ∙ sym are
 
@@ -196,6 +199,6 @@ pub one-fault : BothWaysFindOneFault
 one-fault request count bytes all can = (
   wrong-is request count bytes all can,
   λ none.
-      let rows : List (List Text) = rows_in None (format_told request.source) bytes in
+      let rows : List (List Text) = rows_in None (path_of request.source) (format_told request.source) bytes in
       fault-is request count bytes all none rows refl ∙ one-wrong request.view all.options (streamed_count request count bytes) rows all.rows,
 )

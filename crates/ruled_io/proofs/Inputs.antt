@@ -13,7 +13,7 @@ use Rattle.ruled_table.specs.declared.options.Options.{Options}
 use Rattle.csv.specs.Reading.{strip_bom}
 use Rattle.ruled_io.specs.Formats.{content_of, format_shown, format_streamed, is_database, format_in, format_of_all, is_one_value, is_separated}
 use Rattle.ruled_io.specs.Reading.{BeginsSo, GoesOn, HoldsOn, ReadsFront, ShowsFormat, ShowsInput, ShowsSource, Stands, sound_rows, wrong_in}
-use Rattle.ruled_io.specs.Requests.{format_told, holds_database}
+use Rattle.ruled_io.specs.Requests.{format_told, holds_database, path_of}
 use Rattle.ruled_io.specs.Stream.{Ends, StreamsAll, first_count, has_names, record_count, streamed_count, streamed_rows, streamed_wrong}
 use Rattle.ruled_io.specs.declared.fault.InputFault.TheVariants.{Stream, Memory}
 use Rattle.ruled_io.specs.declared.fault.RunFault.{RunFault}
@@ -68,6 +68,7 @@ shown-all given_format (Some all) (Some rest) front took end = ([], took ∙ ap 
 
 source-shows : (s : Source) (front behind : List ℕ) → ShowsInput (format_told s) front behind → ShowsSource s front behind
 source-shows (source.Rows format) front behind shows = (refl, λ none. shows.rows)
+source-shows (source.Member path) front behind shows = (refl, λ none. shows.rows)
 source-shows (source.Values rules) front behind shows = (refl, λ none. shows.rows)
 source-shows (source.Seen log rules) front behind shows = (shows.database, λ none. shows.rows)
 source-shows (source.Database selection log) front behind shows = (refl, λ none. absurd (true≢false none))
@@ -189,24 +190,25 @@ other-in k text other = elim (cases_Bool (is_one_value k (format_shown k text) t
 ]
 
 -- of another format, no row is left out
-within-other : (limit : ℕ) (format : Format) (bytes : List ℕ) → is_separated format ≡ false → (rows_within (Some limit) format bytes ≡ rows_within None format bytes) × (fault_within (Some limit) format bytes ≡ fault_within None format bytes)
-within-other limit (Separated dialect) bytes other = absurd (true≢false other)
-within-other limit Json bytes other = (refl, refl)
-within-other limit JsonLines bytes other = (refl, refl)
+within-other : (limit : ℕ) (path : List Text) (format : Format) (bytes : List ℕ) → is_separated format ≡ false
+    → (rows_within (Some limit) path format bytes ≡ rows_within None path format bytes) × (fault_within (Some limit) path format bytes ≡ fault_within None path format bytes)
+within-other limit path (Separated dialect) bytes other = absurd (true≢false other)
+within-other limit path Json bytes other = (refl, refl)
+within-other limit path JsonLines bytes other = (refl, refl)
 
 module _ (origin : Source) (limit : ℕ) (bytes : List ℕ) where
   other-rows : (holds : Bool) (rows : List (List Text)) → (holds ≡ false → is_separated (format_in (format_told origin) bytes) ≡ false) → AreRowsAs None holds origin bytes rows → AreRowsAs (Some limit) holds origin bytes rows
   other-rows true rows other are = are
   other-rows false rows other (fine, are) =
       let format : Format = format_in (format_told origin) bytes in
-      let (same, told) = within-other limit format (content_of format bytes) (other refl) in
+      let (same, told) = within-other limit (path_of origin) format (content_of format bytes) (other refl) in
       (told ∙ fine, are ∙ sym same)
 
   other-lacks : (holds : Bool) (fault : InputFault) → (holds ≡ false → is_separated (format_in (format_told origin) bytes) ≡ false) → LacksRowsAs None holds origin bytes fault → LacksRowsAs (Some limit) holds origin bytes fault
   other-lacks true fault other lacks = go fault lacks where
     go : (f : InputFault) → LacksRowsAs None true origin bytes f → LacksRowsAs (Some limit) true origin bytes f
     go f lacks = lacks
-  other-lacks false fault other lacks = λ soft. (within-other limit (format_in (format_told origin) bytes) (content_of (format_in (format_told origin) bytes) bytes) (other refl)).1 ∙ lacks soft
+  other-lacks false fault other lacks = λ soft. (within-other limit (path_of origin) (format_in (format_told origin) bytes) (content_of (format_in (format_told origin) bytes) bytes) (other refl)).1 ∙ lacks soft
 
 -- ---- all rows, where fewer are there than are needed
 
@@ -223,9 +225,9 @@ told-if : {X : Type 0} (b : Bool) (o : Option X) (x : X) → (if b then o else N
 told-if true o x is = is
 told-if false o x is = absurd (cc)
 
-few-are : (limit : ℕ) (format : Format) (bytes : List ℕ) (rows : List (List Text)) → fault_within (Some limit) format bytes ≡ None → rows ≡ rows_within (Some limit) format bytes → length rows < limit
-    → (fault_within None format bytes ≡ None) × (rows ≡ rows_within None format bytes)
-few-are limit (Separated dialect) bytes rows none are few =
+few-are : (limit : ℕ) (path : List Text) (format : Format) (bytes : List ℕ) (rows : List (List Text)) → fault_within (Some limit) path format bytes ≡ None
+    → rows ≡ rows_within (Some limit) path format bytes → length rows < limit → (fault_within None path format bytes ≡ None) × (rows ≡ rows_within None path format bytes)
+few-are limit path (Separated dialect) bytes rows none are few =
     let sound : List (List Text) = csv.sound_rows dialect bytes in
     let long : length rows ≡ length (take limit sound) = ap (λ (xs : List (List Text)). length xs) are in
     let less : length sound < limit = omega (arith, few, long, length-take limit sound) in
@@ -233,13 +235,14 @@ few-are limit (Separated dialect) bytes rows none are few =
     let fault : option_map fault_of_rows (csv.rows_fault dialect bytes) ≡ None = none-if (nat_lt (length sound) limit) (option_map fault_of_rows (csv.rows_fault dialect bytes)) all none in
     let clean : csv.rows_fault dialect bytes ≡ None = unmapped fault_of_rows (csv.rows_fault dialect bytes) fault in
     (fault, are ∙ take_all limit sound (omega (arith, less)) ∙ all-sound dialect bytes clean)
-few-are limit Json bytes rows none are few = (none, are)
-few-are limit JsonLines bytes rows none are few = (none, are)
+few-are limit path Json bytes rows none are few = (none, are)
+few-are limit path JsonLines bytes rows none are few = (none, are)
 
-few-lack : (limit : ℕ) (format : Format) (bytes : List ℕ) (fault : InputFault) → fault_within (Some limit) format bytes ≡ Some fault → fault_within None format bytes ≡ Some fault
-few-lack limit (Separated dialect) bytes fault is = told-if (nat_lt (length (csv.sound_rows dialect bytes)) limit) _ fault is
-few-lack limit Json bytes fault is = is
-few-lack limit JsonLines bytes fault is = is
+few-lack : (limit : ℕ) (path : List Text) (format : Format) (bytes : List ℕ) (fault : InputFault) → fault_within (Some limit) path format bytes ≡ Some fault
+    → fault_within None path format bytes ≡ Some fault
+few-lack limit path (Separated dialect) bytes fault is = told-if (nat_lt (length (csv.sound_rows dialect bytes)) limit) _ fault is
+few-lack limit path Json bytes fault is = is
+few-lack limit path JsonLines bytes fault is = is
 
 module _ (origin : Source) (limit : ℕ) (bytes : List ℕ) where
   needed-are : (needed : Option ℕ) (holds : Bool) (rows : List (List Text)) → AreRowsAs (Some (unwrap_or needed limit)) holds origin bytes rows → length rows < limit → AreRowsAs needed holds origin bytes rows
@@ -247,7 +250,7 @@ module _ (origin : Source) (limit : ℕ) (bytes : List ℕ) where
   needed-are None true rows are few = are
   needed-are None false rows (none, are) few =
       let format : Format = format_in (format_told origin) bytes in
-      few-are limit format (content_of format bytes) rows none are few
+      few-are limit (path_of origin) format (content_of format bytes) rows none are few
 
   needed-lack : (needed : Option ℕ) (holds : Bool) (fault : InputFault) → LacksRowsAs (Some (unwrap_or needed limit)) holds origin bytes fault → LacksRowsAs needed holds origin bytes fault
   needed-lack (Some n) holds fault lacks = lacks
@@ -256,7 +259,7 @@ module _ (origin : Source) (limit : ℕ) (bytes : List ℕ) where
     go f lacks = lacks
   needed-lack None false fault lacks = λ soft.
       let format : Format = format_in (format_told origin) bytes in
-      few-lack limit format (content_of format bytes) (but_line_in fault) (lacks soft)
+      few-lack limit (path_of origin) format (content_of format bytes) (but_line_in fault) (lacks soft)
 
   -- as many rows as are needed, or all, of which there are fewer than the greatest number
   pub rows-needed : (needed : Option ℕ) (rows : List (List Text)) → AreRows (Some (unwrap_or needed limit)) origin bytes rows → length rows < limit → AreRows needed origin bytes rows

@@ -97,6 +97,7 @@ rows-wrong rows_fault.Memory some = absurd (some refl)
 lines-wrong : (found : JsonFault) → found ≢ json_fault.Memory → fault_of_json (json_faults.but_line found) ≡ but_line_in (input.Json found)
 lines-wrong (json_fault.Encoding place) some = refl
 lines-wrong (json_fault.Syntax place) some = refl
+lines-wrong json_fault.NoMember some = refl
 lines-wrong json_fault.NoRecords some = refl
 lines-wrong (json_fault.NoObject place) some = refl
 lines-wrong (json_fault.NoColumn place) some = refl

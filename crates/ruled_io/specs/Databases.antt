@@ -22,11 +22,16 @@ use Rattle.ruled_table.specs.Arranged.{named, padded}
 abbrev pub table_of : Query → List (List Text) → List (List Text)
 table_of query rows = if query.is_padded then padded (named (map string_bytes query.names.items) rows) else named (map string_bytes query.names.items) rows
 
+-- the path of the member that has the rows, where they are JSON
+abbrev pub path_in : Query → List Text
+path_in query = map string_bytes query.path.items
+
 -- what a query answers of these rows, or of a database
 abbrev pub AreAnswer : Option Known → Query → List ℕ → List (List Text) → Type 0
 AreAnswer None query bytes rows = AreAnswered bytes (string_bytes query.text) query.steps rows
 AreAnswer (Some known) query bytes rows =
-    (input_fault None known bytes ≡ None) × AreQueried (string_bytes query.table) (table_of query (rows_in None known bytes)) (string_bytes query.text) query.steps rows
+    (input_fault None (path_in query) known bytes ≡ None)
+    × AreQueried (string_bytes query.table) (table_of query (rows_in None (path_in query) known bytes)) (string_bytes query.text) query.steps rows
 
 -- what a query answers, the rows of a table, or the list of the tables
 abbrev pub AreSelected : Option Selection → List ℕ → List (List Text) → Type 0
@@ -38,7 +43,8 @@ AreSelected (Some Tables) bytes rows = IsListing bytes rows
 -- why a query has no rows, where the input has them
 abbrev pub LacksAnswerOf : Option Known → Query → List ℕ → SqlFault → Type 0
 LacksAnswerOf None query bytes fault = fault ≡ sql.Database → HoldsNone bytes
-LacksAnswerOf (Some known) query bytes fault = (input_fault None known bytes ≡ None) × (fault ≡ sql.NoRows → table_of query (rows_in None known bytes) ≡ [])
+LacksAnswerOf (Some known) query bytes fault =
+    (input_fault None (path_in query) known bytes ≡ None) × (fault ≡ sql.NoRows → table_of query (rows_in None (path_in query) known bytes) ≡ [])
 
 abbrev pub LacksAnswer : Option Selection → List ℕ → SqlFault → Type 0
 LacksAnswer None bytes fault = ⊥
@@ -47,13 +53,13 @@ LacksAnswer (Some (Table name)) bytes fault = ⊥
 LacksAnswer (Some Tables) bytes fault = ⊥
 
 -- or the input has none
-abbrev pub LacksTableOf : Option Known → List ℕ → InputFault → Type 0
-LacksTableOf None bytes fault = ⊥
-LacksTableOf (Some known) bytes fault = input_fault None known bytes ≡ Some (but_line_in fault)
+abbrev pub LacksTableOf : Option Known → Query → List ℕ → InputFault → Type 0
+LacksTableOf None query bytes fault = ⊥
+LacksTableOf (Some known) query bytes fault = input_fault None (path_in query) known bytes ≡ Some (but_line_in fault)
 
 abbrev pub LacksQueried : Option Selection → List ℕ → InputFault → Type 0
 LacksQueried None bytes fault = ⊥
-LacksQueried (Some (Select query)) bytes fault = LacksTableOf (known_in query.known bytes) bytes fault
+LacksQueried (Some (Select query)) bytes fault = LacksTableOf (known_in query.known bytes) query bytes fault
 LacksQueried (Some (Table name)) bytes fault = ⊥
 LacksQueried (Some Tables) bytes fault = ⊥
 

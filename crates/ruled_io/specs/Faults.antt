@@ -149,6 +149,7 @@ fault_of_rows rows.Memory = Memory
 abbrev pub fault_of_json : JsonFault → InputFault
 fault_of_json (json_faults.Encoding place) = Json (json_faults.Encoding place)
 fault_of_json (json_faults.Syntax place) = Json (json_faults.Syntax place)
+fault_of_json json_faults.NoMember = Json json_faults.NoMember
 fault_of_json json_faults.NoRecords = Json json_faults.NoRecords
 fault_of_json (json_faults.NoObject place) = Json (json_faults.NoObject place)
 fault_of_json (json_faults.NoColumn place) = Json (json_faults.NoColumn place)

@@ -1,5 +1,5 @@
 -- What is asked of a run.
-use Rattle.std.specs.Prelude.{ℕ, ◌-◌, ◌==◌, ◌&&◌, ◌||◌, is_some, length, max, Bool, true, false, List, Option, Some, None, option_map, if◌then◌else◌}
+use Rattle.std.specs.Prelude.{ℕ, ◌-◌, ◌==◌, ◌&&◌, ◌||◌, is_some, length, map, max, string_bytes, Bool, true, false, List, [], Option, Some, None, option_map, if◌then◌else◌}
 use Rattle.ruled_csv.specs.declared.dialect.RowRules.{RowRules}
 use Rattle.ruled_database.specs.Files.{keeps_log}
 use Rattle.ruled_io.specs.Formats as formats
@@ -13,11 +13,13 @@ use Rattle.ruled_io.specs.declared.request.Log.{Log}
 use Rattle.ruled_io.specs.declared.request.Log.TheVariants.{Empty, Filled, Unknown}
 use Rattle.ruled_io.specs.declared.request.Selection.{Selection}
 use Rattle.ruled_io.specs.declared.request.Source.{Source}
-use Rattle.ruled_io.specs.declared.request.Source.TheVariants.{Rows, Values, Seen, Database}
+use Rattle.ruled_io.specs.declared.request.Selection.TheVariants.{Query as Select, Table, Tables}
+use Rattle.ruled_io.specs.declared.request.Source.TheVariants.{Rows, Member, Values, Seen, Database}
 
 -- what is told of the format of its rows
 abbrev pub format_told : Source → Known
 format_told (Rows format) = known.Format format
+format_told (Member path) = known.Format format.Json
 format_told (Values rules) = known.Values rules
 format_told (Seen log rules) = known.Nothing rules
 format_told (Database selection log) = known.Nothing formats.plain
@@ -25,9 +27,20 @@ format_told (Database selection log) = known.Nothing formats.plain
 -- the same of its rows, unless they are a database's
 abbrev pub known_rows : Source → Option Known
 known_rows (Rows format) = Some (known.Format format)
+known_rows (Member path) = Some (known.Format format.Json)
 known_rows (Values rules) = Some (known.Values rules)
 known_rows (Seen log rules) = Some (known.Nothing rules)
 known_rows (Database selection log) = None
+
+-- the path of the member that has the rows, where they are JSON
+abbrev pub path_of : Source → List (List ℕ)
+path_of (Rows format) = []
+path_of (Member path) = map string_bytes path.items
+path_of (Values rules) = []
+path_of (Seen log rules) = []
+path_of (Database (Select query) log) = map string_bytes query.path.items
+path_of (Database (Table name) log) = []
+path_of (Database Tables log) = []
 
 -- these bytes are a database, where this is known of the format of rows
 abbrev pub sees_database : Known → List ℕ → Bool
@@ -43,6 +56,7 @@ known_in (Some told) bytes = if sees_database told bytes then None else Some tol
 -- it is a database, or asked as one: that is told, or the first bytes show it
 abbrev pub holds_database : Source → List ℕ → Bool
 holds_database (Rows format) bytes = false
+holds_database (Member path) bytes = false
 holds_database (Values rules) bytes = false
 holds_database (Seen log rules) bytes = formats.is_database bytes
 holds_database (Database selection log) bytes = true
@@ -50,6 +64,7 @@ holds_database (Database selection log) bytes = true
 -- what is asked of a database
 abbrev pub selection_of : Source → Option Selection
 selection_of (Rows format) = None
+selection_of (Member path) = None
 selection_of (Values rules) = None
 selection_of (Seen log rules) = None
 selection_of (Database selection log) = Some selection
@@ -57,12 +72,14 @@ selection_of (Database selection log) = Some selection
 -- what is known of its logs
 abbrev pub log_of : Source → Log
 log_of (Rows format) = Empty
+log_of (Member path) = Empty
 log_of (Values rules) = Empty
 log_of (Seen log rules) = log
 log_of (Database selection log) = log
 
 abbrev pub with_log : Log → Source → Source
 with_log log (Rows format) = Rows format
+with_log log (Member path) = Member path
 with_log log (Values rules) = Values rules
 with_log log (Seen old rules) = Seen log rules
 with_log log (Database selection old) = Database selection log
@@ -75,6 +92,7 @@ ruled_format rules format.JsonLines = format.JsonLines
 
 abbrev pub with_rules : RowRules → Source → Source
 with_rules rules (Rows format) = Rows (ruled_format rules format)
+with_rules rules (Member path) = Member path
 with_rules rules (Values old) = Values rules
 with_rules rules (Seen log old) = Seen log rules
 with_rules rules (Database selection log) = Database selection log

@@ -42,7 +42,7 @@ fn queried_rows(
     ensures rows { IfOk result (λ rows. AreAnswer (Some known) query.now bytes.now (map fields_of rows.items)) }
     ensures cause { known_in query.now.known bytes.now ≡ Some known → IfErr result (LacksSelected (Some (Select query.now)) bytes.now) }
 {
-    let rows = rows_in(alloc, known, bytes)?;
+    let rows = rows_in(alloc, known, &query.path, bytes)?;
     let table = table_of(alloc, query, rows)?;
     let text = query.text.as_str();
     Ok(query_table(alloc, query.table.as_str(), &table, text, query.steps)?)

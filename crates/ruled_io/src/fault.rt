@@ -6,7 +6,7 @@ ghost use Rattle.ruled_io.specs.Faults.{streamed_fault_text};
 ghost use Rattle.ruled_io.specs.declared.fault.InputFault.TheVariants.{Memory};
 ghost use Rattle.ruled_io.specs.declared.fault.RunFault.TheVariants.{Input};
 
-use crate::name::Quoted;
+use crate::name::{OneLine, Quoted};
 use crate::request::{Log, Query, Request, Selection};
 use ruled_csv::RowsFault;
 use ruled_database::{DatabaseFault, TableFault};
@@ -213,6 +213,7 @@ impl InputFault {
             InputFault::Json(fault @ JsonFault::Encoding(_)) => {
                 writeln!(err, "{fault}; try --encoding cp1252")
             }
+            InputFault::Json(JsonFault::NoMember) => tell_member(request.source.path(), err),
             InputFault::Json(fault) => writeln!(err, "{fault}"),
             InputFault::Sql(fault) => match request.source.selection() {
                 Some(Selection::Query(query)) => tell_refusal(fault, query, err),
@@ -239,6 +240,16 @@ impl InputFault {
 fn tell_column<W: Write>(word: Option<&String>, err: &mut W) -> io::Result<()> {
     let word = Quoted(word.map_or("", |word| word.as_str()));
     writeln!(err, "no column {word}")
+}
+
+// Writes that there is no member at a path, whose names are written with dots between them. An error is the writer's.
+fn tell_member<W: Write>(path: &[String], err: &mut W) -> io::Result<()> {
+    write!(err, "no member '")?;
+    for (at, name) in path.iter().enumerate() {
+        let dot = if at == 0 { "" } else { "." };
+        write!(err, "{dot}{}", OneLine(name.as_str()))?;
+    }
+    writeln!(err, "'")
 }
 
 // The word of a query from which so many bytes are left, up to a blank.

@@ -1,6 +1,6 @@
 //! The rows that an input holds, or that are asked of it.
 
-ghost use Rattle.std.specs.Prelude.{◌≡◌, None, map, IfErr, IfOk};
+ghost use Rattle.std.specs.Prelude.{◌≡◌, None, map, string_bytes, IfErr, IfOk};
 ghost use Rattle.csv.specs.Records.{fields_of};
 ghost use Rattle.ruled_io.specs.Faults.{Tells};
 ghost use Rattle.ruled_io.specs.Input.{format_fault, input_fault, rows_in, rows_of};
@@ -15,29 +15,35 @@ use ruled_csv::{read_rows, without_mark};
 use ruled_json::read_line_rows;
 use std::alloc::Global;
 
-// The rows that bytes of this format hold.
-fn rows_of(alloc: Global, format: Format, bytes: &[u8]) -> Result<Vec<StringRecord>, InputFault>
-    ensures rows { IfOk result (λ rows. map fields_of rows.items ≡ rows_of format bytes.now) }
-    ensures fault { Tells (format_fault format bytes.now) result }
+// The rows that bytes of this format hold, of JSON those of the member at this path.
+fn rows_of(
+    alloc: Global,
+    format: Format,
+    path: &[String],
+    bytes: &[u8],
+) -> Result<Vec<StringRecord>, InputFault>
+    ensures rows { IfOk result (λ rows. map fields_of rows.items ≡ rows_of (map string_bytes path.now) format bytes.now) }
+    ensures fault { Tells (format_fault (map string_bytes path.now) format bytes.now) result }
 {
     match format {
         Format::Separated(dialect) => Ok(read_rows(alloc, dialect, bytes)?),
-        Format::Json => Ok(ruled_json::read_rows(alloc, without_mark(bytes))?),
+        Format::Json => Ok(ruled_json::read_rows(alloc, without_mark(bytes), path)?),
         Format::JsonLines => Ok(read_line_rows(alloc, without_mark(bytes))?),
     }
 }
 
-/// The rows that bytes hold, of which the first is row 0, or why there are none.
+/// The rows that bytes hold, of which the first is row 0, or why there are none. JSON has them in the member at this path.
 pub(crate) fn rows_in(
     alloc: Global,
     known: Known,
+    path: &[String],
     bytes: &[u8],
 ) -> Result<Vec<StringRecord>, InputFault>
-    ensures rows { IfOk result (λ rows. map fields_of rows.items ≡ rows_in None known bytes.now) }
-    ensures fault { Tells (input_fault None known bytes.now) result }
+    ensures rows { IfOk result (λ rows. map fields_of rows.items ≡ rows_in None (map string_bytes path.now) known bytes.now) }
+    ensures fault { Tells (input_fault None (map string_bytes path.now) known bytes.now) result }
 {
     let format = format_in(alloc, known, bytes)?;
-    rows_of(alloc, format, content_of(format, bytes))
+    rows_of(alloc, format, path, content_of(format, bytes))
 }
 
 /// The rows of an input of these bytes, of which the first is row 0, or why there are none.
@@ -52,5 +58,5 @@ pub(crate) fn all_rows(
     if source.is_database(bytes) {
         return asked_rows(alloc, source, bytes);
     }
-    rows_in(alloc, source.known(), bytes)
+    rows_in(alloc, source.known(), source.path(), bytes)
 }

@@ -1,6 +1,6 @@
 //! Requests.
 
-ghost use Rattle.std.specs.Prelude.{◌≡◌, option_map};
+ghost use Rattle.std.specs.Prelude.{◌≡◌, map, option_map, string_bytes};
 ghost use Rattle.ruled_io.specs.Requests as spec;
 
 use crate::formats::{Format, Known, is_database};
@@ -40,6 +40,8 @@ pub struct Query {
     pub text: String,
     /// What is known of the rows that it reads, unless these are a database's.
     pub known: Option<Known>,
+    /// The path of the member that has these rows, if they are JSON: none for the value itself.
+    pub path: Vec<String>,
     /// The name of the table of these rows, for which `input` does, too.
     pub table: String,
     /// Names above them, if there are any.
@@ -89,6 +91,8 @@ pub enum Selection {
 pub enum Source {
     /// Rows in this format.
     Rows(Format),
+    /// One JSON value, of which the member at this path has the rows.
+    Member(Vec<String>),
     /// Rows of separated values, as these rules say, with the delimiter that the first line sets or the line of
     /// the first row has most often.
     Values { rules: RowRules },
@@ -107,6 +111,7 @@ impl Source {
     {
         match self {
             Source::Rows(format) => Known::Format(*format),
+            Source::Member(_) => Known::Format(Format::Json),
             Source::Values { rules } => Known::Values { rules: *rules },
             Source::Seen { rules, .. } => Known::Nothing { rules: *rules },
             Source::Database { .. } => Known::Nothing {
@@ -125,12 +130,26 @@ impl Source {
         }
     }
 
+    // The path of the member that has the rows, if they are JSON.
+    pub(crate) fn path(&self) -> &[String]
+        ensures { map string_bytes result.now ≡ spec.path_of self.now }
+    {
+        match self {
+            Source::Member(path) => path.as_slice(),
+            Source::Database {
+                selection: Selection::Query(query),
+                ..
+            } => query.path.as_slice(),
+            _ => &[],
+        }
+    }
+
     // Whether it is a database, if these are its bytes, or the first of them.
     pub(crate) fn is_database(&self, bytes: &[u8]) -> bool
         ensures { result ≡ spec.holds_database self.now bytes.now }
     {
         match self {
-            Source::Rows(_) | Source::Values { .. } => false,
+            Source::Rows(_) | Source::Member(_) | Source::Values { .. } => false,
             Source::Seen { .. } => is_database(bytes),
             Source::Database { .. } => true,
         }
@@ -142,7 +161,9 @@ impl Source {
     {
         match self {
             Source::Database { selection, .. } => Some(selection),
-            Source::Rows(_) | Source::Values { .. } | Source::Seen { .. } => None,
+            Source::Rows(_) | Source::Member(_) | Source::Values { .. } | Source::Seen { .. } => {
+                None
+            }
         }
     }
 
@@ -151,7 +172,7 @@ impl Source {
         ensures { result ≡ spec.log_of self.now }
     {
         match self {
-            Source::Rows(_) | Source::Values { .. } => Log::Empty,
+            Source::Rows(_) | Source::Member(_) | Source::Values { .. } => Log::Empty,
             Source::Seen { log, .. } => *log,
             Source::Database { log, .. } => *log,
         }
@@ -162,7 +183,7 @@ impl Source {
         ensures { self.new ≡ spec.with_log known self.old }
     {
         match self {
-            Source::Rows(_) | Source::Values { .. } => {}
+            Source::Rows(_) | Source::Member(_) | Source::Values { .. } => {}
             Source::Seen { log, .. } => *log = known,
             Source::Database { log, .. } => *log = known,
         }
@@ -176,7 +197,7 @@ impl Source {
             Source::Rows(Format::Separated(dialect)) => dialect.rows = wanted,
             Source::Values { rules } => *rules = wanted,
             Source::Seen { rules, .. } => *rules = wanted,
-            Source::Rows(_) | Source::Database { .. } => {}
+            Source::Rows(_) | Source::Member(_) | Source::Database { .. } => {}
         }
     }
 }

@@ -18,16 +18,16 @@ use Rattle.json.proofs.Numbered.{HasNumbers-get}
 use Rattle.std.proofs.lemmas.Bool.{cases_Bool, and_parts}
 use Rattle.std.proofs.lemmas.List.{get_or-map, length-map, map-append}
 use Rattle.std.proofs.lemmas.List.Elements.{All-cons, All-nil}
-use Rattle.ruled_json.specs.Rows.{list_of, names_in, records_in, with_name}
+use Rattle.ruled_json.specs.Rows.{list_of, member_at, names_in, records_in, records_of, rows_of, table_of, with_name}
 use Rattle.std.specs.Prelude.{◌↔◌, option_and_then, is_some, IfOk, IsSome, IsTrue, ◌==◌}
-use Rattle.std.specs.Option.{option_or}
+use Rattle.std.specs.Option.{option_map_or, option_or}
 use Rattle.std.specs.Result.{IsErrAnd}
 use Rattle.std.proofs.lemmas.Str.{IsUtf8-from_is_utf8, is_utf8-from_IsUtf8}
-use Rattle.ruled_json.specs.Faults.{Tells, but_line, but_near, is_value, rows_fault, text_fault, value_fault}
+use Rattle.ruled_json.specs.Faults.{Tells, but_line, but_near, is_value, member_fault, rows_fault, text_fault, value_fault}
 use Rattle.ruled_json.specs.declared.fault.JsonFault.{JsonFault}
 use Rattle.ruled_json.specs.declared.place.Place.TheVariants.{Near}
 use Rattle.ruled_json.specs.declared.place.Place.{Place}
-use Rattle.ruled_json.specs.declared.fault.JsonFault.TheVariants.{Encoding, Syntax, Memory}
+use Rattle.ruled_json.specs.declared.fault.JsonFault.TheVariants.{Encoding, Syntax, NoMember, Memory}
 use Rattle.std.specs.Cmp.Lexicographic.{pointwise}
 use Rattle.csv.specs.Reading.{is_bom, strip_bom}
 use Rattle.json.specs.Lex.{lex, punctuate}
@@ -103,6 +103,20 @@ records_have_numbers (string s) h = All-nil HasNumbers
 records_have_numbers (array js) h = items_have_numbers js h
 records_have_numbers (object ms) h = All-cons HasNumbers (object ms) [] h (All-nil HasNumbers)
 
+-- and those of a member
+got : (name : List ℕ) (j : Json) (found : Option Json) → HasNumbers j → found ≡ get name j → IfSome found HasNumbers
+got name j None h e = tt
+got name j (Some part) h e = HasNumbers-get name j part h e
+
+behind : (path : List (List ℕ)) (part : Json) (found : Option Json) → IfSome found HasNumbers → ((j : Json) → HasNumbers j → Some part ≡ member_at path j → HasNumbers part)
+    → Some part ≡ option_and_then (member_at path) found → HasNumbers part
+behind path part None h next e = cc
+behind path part (Some j) h next e = next j h e
+
+pub member_has_numbers : (path : List (List ℕ)) (j part : Json) → HasNumbers j → Some part ≡ member_at path j → HasNumbers part
+member_has_numbers [] j part h e = let same : j ≡ part = cc in subst HasNumbers same h
+member_has_numbers (name ∷ path) j part h e = behind path part (get name j) (got name j (get name j) h refl) (λ m. member_has_numbers path m part) e
+
 -- ---- what is wrong with the text of a value
 
 pub not_utf8 : (place found : Place) (text : List ℕ) → ¬ (IsUtf8 text) → but_near found ≡ but_near place → text_fault (but_near place) text ≡ Some (but_line (Encoding found))
@@ -122,16 +136,32 @@ pub handed_on : {X : Type 0} (right : Option JsonFault) (found : JsonFault) (res
 handed_on right found (Ok x) is told = absurd told
 handed_on right found (Err fault) is told = λ counts. is (λ e. counts (told ∙ e)) ∙ ap (λ (f : JsonFault). Some (but_line f)) (sym told)
 
--- what is wrong with bytes, where their text is wrong, where their value is, and where nothing is
-pub text_told : (bytes : List ℕ) (fault : JsonFault) → text_fault (Near 0) bytes ≡ Some fault → rows_fault bytes ≡ Some fault
-unfolding rows_fault
-text_told bytes fault wrong = ap (λ (f : Option JsonFault). option_or f (option_and_then value_fault (document bytes))) wrong
+-- what is wrong with bytes, where their text is wrong, and where it is a value
+module _ (path : List (List ℕ)) (bytes : List ℕ) where
+  pub text_told : (fault : JsonFault) → text_fault (Near 0) bytes ≡ Some fault → rows_fault path bytes ≡ Some fault
+  unfolding rows_fault
+  text_told fault wrong = ap (λ (f : Option JsonFault). option_or f (option_and_then (member_fault path) (document bytes))) wrong
 
-pub value_told : (bytes : List ℕ) (value : Json) (told : Option JsonFault) → text_fault (Near 0) bytes ≡ None → document bytes ≡ Some value → value_fault value ≡ told → rows_fault bytes ≡ told
-unfolding rows_fault
-value_told bytes value told right is wrong =
-    ap (λ (f : Option JsonFault). option_or f (option_and_then value_fault (document bytes))) right
-    ∙ ap (option_and_then value_fault) is ∙ wrong
+  value_told : (value : Json) → text_fault (Near 0) bytes ≡ None → document bytes ≡ Some value → rows_fault path bytes ≡ member_fault path value
+  unfolding rows_fault
+  value_told value right is =
+      ap (λ (f : Option JsonFault). option_or f (option_and_then (member_fault path) (document bytes))) right
+      ∙ ap (option_and_then (member_fault path)) is
+
+  -- which is what is wrong with its member, or that there is none
+  module _ (value : Json) (right : text_fault (Near 0) bytes ≡ None) (is : document bytes ≡ Some value) where
+    pub member_told : {X : Type 0} (member : Json) (result : Result X JsonFault) → Some member ≡ member_at path value → Tells (value_fault member) result → Tells (rows_fault path bytes) result
+    member_told {X} member result at told =
+        subst (λ (f : Option JsonFault). Tells f result)
+        (sym (value_told value right is ∙ ap (λ (m : Option Json). option_map_or value_fault m (Some NoMember)) (sym at))) told
+
+    pub member_lacks : None ≡ member_at path value → rows_fault path bytes ≡ Some NoMember
+    member_lacks at = value_told value right is ∙ ap (λ (m : Option Json). option_map_or value_fault m (Some NoMember)) (sym at)
+
+  pub member_rows : (value member : Json) → document bytes ≡ Some value → Some member ≡ member_at path value → rows_of path bytes ≡ table_of (records_in member)
+  unfolding rows_of
+  member_rows value member is at =
+      ap (λ (v : Option Json). table_of (records_of (option_and_then (member_at path) v))) is ∙ ap (λ (m : Option Json). table_of (records_of m)) (sym at)
 
 -- whether bytes are one value
 same_truth : (a b : Bool) → (a ≡ true → b ≡ true) → (b ≡ true → a ≡ true) → a ≡ b
@@ -183,9 +213,9 @@ no_mark (a ∷ []) e = refl
 no_mark (a ∷ b ∷ []) e = refl
 no_mark (a ∷ b ∷ c ∷ rest) e = let is : is_bom a b c ≡ false = sym (tests a b c) ∙ e in rw is refl
 
-pub nothing_told : rows_fault [] ≡ Some (Syntax (Near 0))
+pub nothing_told : (path : List (List ℕ)) → rows_fault path [] ≡ Some (Syntax (Near 0))
 unfolding rows_fault chars is_utf8 value lex punctuate
-nothing_told = refl
+nothing_told path = refl
 
 -- the members of an object
 pub ruleset members = (names_view, view-Object)

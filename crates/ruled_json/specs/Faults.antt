@@ -1,11 +1,11 @@
 -- Why JSON holds no rows.
 use Rattle.std.specs.Prelude.{◌≡◌, ◌≢◌, ℕ, ◌+◌, ◌-◌, ◌^◌, min, ◌==◌, take, length, count_by, not, ◌&&◌, Bool, List, [], ◌∷◌, Option, Some, None, is_none, is_some, option_and_then, Result, Ok, Err, if◌then◌else◌, ◌++◌, codes, decimal}
-use Rattle.std.specs.Option.{option_or}
+use Rattle.std.specs.Option.{option_map_or, option_or}
 use Rattle.std.specs.Str.{is_utf8}
 use Rattle.json.specs.Json.{Json, null, boolean, number, string, array, object, document}
-use Rattle.ruled_json.specs.Rows.{is_blank, lines_of, list_of}
+use Rattle.ruled_json.specs.Rows.{is_blank, lines_of, list_of, member_at}
 use Rattle.ruled_json.specs.declared.fault.JsonFault.{JsonFault}
-use Rattle.ruled_json.specs.declared.fault.JsonFault.TheVariants.{Encoding, Syntax, NoRecords, NoObject, NoColumn, Memory}
+use Rattle.ruled_json.specs.declared.fault.JsonFault.TheVariants.{Encoding, Syntax, NoMember, NoRecords, NoObject, NoColumn, Memory}
 use Rattle.ruled_json.specs.declared.place.Place.{Place}
 use Rattle.ruled_json.specs.declared.place.Place.TheVariants.{Near, Record, Line}
 
@@ -19,6 +19,7 @@ but_near (Line n) = Line n
 abbrev pub but_line : JsonFault → JsonFault
 but_line (Encoding place) = Encoding (but_near place)
 but_line (Syntax place) = Syntax (but_near place)
+but_line NoMember = NoMember
 but_line NoRecords = NoRecords
 but_line (NoObject place) = NoObject (but_near place)
 but_line (NoColumn place) = NoColumn (but_near place)
@@ -63,9 +64,13 @@ value_fault (string s) = Some NoRecords
 value_fault (array js) = first_fault 1 (list_of js)
 value_fault (object ms) = None
 
+-- what is wrong with a value whose member at this path has the records
+abbrev pub member_fault : List (List ℕ) → Json → Option JsonFault
+member_fault path value = option_map_or value_fault (member_at path value) (Some NoMember)
+
 -- what is wrong with bytes that are to be one value
-unfoldable pub rows_fault : List ℕ → Option JsonFault
-rows_fault bytes = option_or (text_fault (Near 0) bytes) (option_and_then value_fault (document bytes))
+unfoldable pub rows_fault : List (List ℕ) → List ℕ → Option JsonFault
+rows_fault path bytes = option_or (text_fault (Near 0) bytes) (option_and_then (member_fault path) (document bytes))
 
 -- what is wrong with a line
 abbrev pub line_fault : ℕ → List ℕ → Option JsonFault
@@ -97,6 +102,7 @@ place_text (Line n) = codes "line " ++ (decimal n ++ codes ": ")
 abbrev pub json_fault_text : JsonFault → List ℕ
 json_fault_text (Encoding place) = place_text place ++ codes "not UTF-8"
 json_fault_text (Syntax place) = place_text place ++ codes "not JSON"
+json_fault_text NoMember = codes "no such member"
 json_fault_text NoRecords = codes "neither an array nor an object"
 json_fault_text (NoObject place) = place_text place ++ codes "not an object"
 json_fault_text (NoColumn place) = place_text place ++ codes "a member that none of the first rows has"

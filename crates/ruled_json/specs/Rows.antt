@@ -1,5 +1,5 @@
 -- The rows that JSON holds: a header, and a row for each record.
-use Rattle.std.specs.Prelude.{ℕ, ◌==◌, List, [], ◌∷◌, ◌++◌, map, fold, length, flat_map, Bool, Option, Some, None, if◌then◌else◌}
+use Rattle.std.specs.Prelude.{ℕ, ◌==◌, List, [], ◌∷◌, ◌++◌, map, fold, length, flat_map, Bool, Option, Some, None, option_and_then, if◌then◌else◌}
 use Rattle.std.specs.List.{filter_map, list_all, list_any, slice_split}
 use Rattle.std.specs.Str.{bytes_eq}
 use Rattle.json.specs.Find.{get}
@@ -57,6 +57,14 @@ table_in columns records = if length columns == 0 then [] else columns ∷ map (
 abbrev pub table_of : List Json → List (List (List ℕ))
 table_of records = table_in (columns_of records) records
 
+-- ---- the member that has the records
+
+-- the member of a value at this path: each name is that of a member of the one before; of members of one name the last one
+-- counts. Without a name it is the value
+abbrev pub member_at : List (List ℕ) → Json → Option Json
+member_at [] value = Some value
+member_at (name ∷ path) value = option_and_then (member_at path) (get name value)
+
 -- ---- the records of a value
 
 abbrev pub list_of : Items → List Json
@@ -76,9 +84,9 @@ abbrev pub records_of : Option Json → List Json
 records_of None = []
 records_of (Some value) = records_in value
 
--- the rows of the value that these bytes are
-unfoldable pub rows_of : List ℕ → List (List (List ℕ))
-rows_of bytes = table_of (records_of (document bytes))
+-- the rows of the member at this path of the value that these bytes are
+unfoldable pub rows_of : List (List ℕ) → List ℕ → List (List (List ℕ))
+rows_of path bytes = table_of (records_of (option_and_then (member_at path) (document bytes)))
 
 -- ---- a record on each line
 

@@ -15,7 +15,9 @@ pub enum JsonFault {
     Encoding(Place),
     /// The text isn't a JSON value, or its arrays and objects nest deeper than 128.
     Syntax(Place),
-    /// The value is neither an array nor an object.
+    /// The value has no member at the path.
+    NoMember,
+    /// The value that has the records is neither an array nor an object.
     NoRecords,
     /// The value isn't an object.
     NoObject(Place),
@@ -49,6 +51,7 @@ impl fmt::Display for JsonFault {
         match self {
             JsonFault::Encoding(place) => write!(f, "{place}not UTF-8"),
             JsonFault::Syntax(place) => write!(f, "{place}not JSON"),
+            JsonFault::NoMember => write!(f, "no such member"),
             JsonFault::NoRecords => write!(f, "neither an array nor an object"),
             JsonFault::NoObject(place) => write!(f, "{place}not an object"),
             JsonFault::NoColumn(place) => write!(

@@ -1,12 +1,12 @@
 //! Rows of one value.
 
-ghost use Rattle.std.specs.Prelude.{◌≡◌, All, Err, IsUtf8, Some, [], fold, map, string_bytes, IfOk, OnErr};
+ghost use Rattle.std.specs.Prelude.{◌≡◌, All, Err, IsUtf8, Some, [], fold, map, option_map, string_bytes, IfOk, OnErr};
 ghost use Rattle.csv.specs.Records.{fields_of};
 ghost use Rattle.json.specs.Json.{document};
 ghost use Rattle.json.specs.Tree.{HasNumbers};
 ghost use Rattle.json.specs.Value.{value_view};
 ghost use Rattle.ruled_json.specs.Faults.{Tells, but_near, first_fault, is_value, record_fault, rows_fault, text_fault, value_fault};
-ghost use Rattle.ruled_json.specs.Rows.{columns_of, records_in, rows_of, table_of};
+ghost use Rattle.ruled_json.specs.Rows.{columns_of, member_at, records_in, rows_of, table_of};
 ghost use Rattle.ruled_json.specs.declared.fault.JsonFault.TheVariants.{Syntax};
 ghost use Rattle.ruled_json.specs.declared.place.Place.TheVariants.{Near};
 
@@ -79,6 +79,16 @@ fn check_records(values: &[Value<'_>]) -> Result<(), JsonFault>
     Ok(())
 }
 
+// The member of a value at this path.
+fn member_at<'v, 'a>(value: &'v Value<'a>, path: &[String]) -> Option<&'v Value<'a>>
+    ensures { option_map (λ v. value_view v.now) result ≡ member_at (map string_bytes path.now) (value_view value.now) }
+{
+    match path {
+        [] => Some(value),
+        [name, behind @ ..] => member_at(value.get(name.as_str())?, behind),
+    }
+}
+
 // The records of a value.
 fn records_in<'v, 'a>(value: &'v Value<'a>) -> Result<&'v [Value<'a>], JsonFault>
     ensures records { IfOk result (λ records. map value_view records.now ≡ records_in (value_view value.now)) }
@@ -123,19 +133,38 @@ fn table_of(alloc: Global, records: &[Value<'_>]) -> Result<Vec<StringRecord>, A
     Ok(rows)
 }
 
-/// The rows of a JSON value: a header, and a row for each record. The records are the objects of an
-/// array, or one object alone.
+// The rows of a value.
+#[tactic(auto, using(crate::proofs::Views::records_have_numbers))]
+fn rows_in(alloc: Global, value: &Value<'_>) -> Result<Vec<StringRecord>, JsonFault>
+    requires numbers { HasNumbers (value_view value.now) }
+    ensures rows { IfOk result (λ rows. map fields_of rows.items ≡ table_of (records_in (value_view value.now))) }
+    ensures fault { Tells (value_fault (value_view value.now)) result }
+{
+    let records = records_in(value)?;
+    let rows = table_of(alloc, records)?;
+    Ok(rows)
+}
+
+/// The rows of the member at `path` of a JSON value: a header, and a row for each record. The records
+/// are the objects of an array, or one object alone.
 ///
-/// The columns are the names of all members, in the order in which they first appear. A cell is the
-/// text of a string, a number as written, `true` or `false`, or an array or an object as JSON
-/// without spaces. It is empty if the record lacks the member, or has `null`. Of members with one
-/// name the last one counts. If no record has a member, there are no rows.
+/// Each name of the path is that of a member of the one before; without a name the value itself has
+/// the records. The columns are the names of all members of records, in the order in which they first
+/// appear. A cell is the text of a string, a number as written, `true` or `false`, or an array or an
+/// object as JSON without spaces. It is empty if the record lacks the member, or has `null`. Of
+/// members with one name the last one counts, also in the path. If no record has a member, there are
+/// no rows.
 ///
-/// The fault is that of the text, else that of the value, else that of the first record that isn't
-/// an object. The only other fault is out of memory, which no bytes need.
-pub fn read_rows(alloc: Global, bytes: &[u8]) -> Result<Vec<StringRecord>, JsonFault>
-    ensures rows { IfOk result (λ rows. map fields_of rows.items ≡ rows_of bytes.now) }
-    ensures fault { Tells (rows_fault bytes.now) result }
+/// The fault is that of the text, else that there is no member at the path, else that of this
+/// member, else that of the first record that isn't an object. The only other fault is out of memory,
+/// which no bytes need.
+pub fn read_rows(
+    alloc: Global,
+    bytes: &[u8],
+    path: &[String],
+) -> Result<Vec<StringRecord>, JsonFault>
+    ensures rows { IfOk result (λ rows. map fields_of rows.items ≡ rows_of (map string_bytes path.now) bytes.now) }
+    ensures fault { Tells (rows_fault (map string_bytes path.now) bytes.now) result }
     ensures nothing { bytes.now ≡ [] → result ≡ Err (Syntax (Near 1)) }
 {
     if bytes.is_empty() {
@@ -143,7 +172,8 @@ pub fn read_rows(alloc: Global, bytes: &[u8]) -> Result<Vec<StringRecord>, JsonF
     }
     let mut scratch = Scratch::new(alloc);
     let value = value_of(alloc, &mut scratch, bytes, Place::Near(0))?;
-    let records = records_in(&value)?;
-    let rows = table_of(alloc, records)?;
-    Ok(rows)
+    match member_at(&value, path) {
+        Some(member) => rows_in(alloc, member),
+        None => Err(JsonFault::NoMember),
+    }
 }

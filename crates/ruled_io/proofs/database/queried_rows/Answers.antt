@@ -1,3 +1,5 @@
+use Rattle.std.proofs.Common.{ap, map, string_bytes, String, List, Some, subst, sym}
+use Rattle.ruled_io.specs.Faults.{Tells}
 use Rattle.ruled_io.proofs.Causes.{of_rows}
 use Rattle.ruled_io.proofs.database.queried_rows.Goals as goal
 

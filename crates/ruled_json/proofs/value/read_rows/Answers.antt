@@ -1,40 +1,42 @@
-use Rattle.std.proofs.Common.{◌∙◌, ap, sym, subst, All, None, Some, eqb-true}
+use Rattle.std.proofs.Common.{◌≡◌, ◌∙◌, ℕ, List, ap, sym, subst, map, string_bytes, eqb-true}
+use Rattle.std.specs.Prelude.{IfOk}
 use Rattle.std.proofs.lemmas.List.{nil_from_length}
-use Rattle.json.specs.Tree.{HasNumbers}
+use Rattle.csv.specs.Records.{fields_of}
 use Rattle.json.specs.Value.{value_view}
 use Rattle.ruled_json.specs.Faults.{but_line, rows_fault}
-use Rattle.ruled_json.specs.Rows.{records_of, rows_of, table_of}
-use Rattle.ruled_json.proofs.Views.{nothing_told, handed_on, text_told, value_told, records_have_numbers}
+use Rattle.ruled_json.proofs.Views.{handed_on, member_has_numbers, member_lacks, member_rows, member_told, nothing_told, text_told}
 use Rattle.ruled_json.proofs.value.read_rows.Goals as goal
 
 pub returns-then-is_empty-clause-fault : goal.returns-then-is_empty-clause-fault
 returns-then-is_empty-clause-fault c = λ _.
-    ap rows_fault (nil_from_length c.args.bytes.now (eqb-true _ 0 (sym c.is_empty.ensures ∙ c.if-is_empty.true))) ∙ nothing_told
+    let path = map string_bytes c.args.path.now in
+    ap (rows_fault path) (nil_from_length c.args.bytes.now (eqb-true _ 0 (sym c.is_empty.ensures ∙ c.if-is_empty.true))) ∙ nothing_told path
 
 pub returns-in_err-value-clause-fault : goal.returns-in_err-value-clause-fault
 returns-in_err-value-clause-fault c =
+    let path = map string_bytes c.args.path.now in
     let bytes = c.args.bytes.now in
     let fault = c.in_err-value.field-0.0 in
-    handed_on (rows_fault bytes) fault c.from_residual.result (λ counts. text_told bytes (but_line fault) (c.in_err-value.ensures.fault counts)) c.from_residual.ensures.1
+    handed_on (rows_fault path bytes) fault c.from_residual.result (λ counts. text_told path bytes (but_line fault) (c.in_err-value.ensures.fault counts)) c.from_residual.ensures.1
 
-pub returns-in_err-records-clause-fault : goal.returns-in_err-records-clause-fault
-returns-in_err-records-clause-fault c =
-    let bytes = c.args.bytes.now in
-    let fault = c.in_err-records.field-0.0 in
-    handed_on (rows_fault bytes) fault c.from_residual-in_err-records.result
-    (λ counts. value_told bytes (value_view c.in_ok-value.value) (Some (but_line fault)) c.in_ok-value.ensures.fault c.in_ok-value.ensures.value (c.in_err-records.ensures.fault counts))
-    c.from_residual-in_err-records.ensures.1
-
-pub table_of-requires : goal.table_of-requires
-table_of-requires c = record {
-  numbers = subst (All HasNumbers) (sym c.in_ok-records.ensures.records) (records_have_numbers (value_view c.in_ok-value.value) c.in_ok-value.ensures.numbers);
+pub rows_in-requires : goal.rows_in-requires
+rows_in-requires c = record {
+  numbers = member_has_numbers (map string_bytes c.args.path.now) (value_view c.in_ok-value.value) (value_view c.in-Some.member.now) c.in_ok-value.ensures.numbers c.in-Some.ensures;
 }
 
-pub returns-clause-rows : goal.returns-clause-rows
-unfolding rows_of
-returns-clause-rows c =
-    c.in_ok-rows.ensures ∙ ap table_of c.in_ok-records.ensures.records ∙ sym (ap (λ found. table_of (records_of found)) c.in_ok-value.ensures.value)
+pub returns-in-Some-clause-rows : goal.returns-in-Some-clause-rows
+returns-in-Some-clause-rows c =
+    let path = map string_bytes c.args.path.now in
+    let is = member_rows path c.args.bytes.now (value_view c.in_ok-value.value) (value_view c.in-Some.member.now) c.in_ok-value.ensures.value c.in-Some.ensures in
+    subst (λ (all : List (List (List ℕ))). IfOk c.rows_in.result (λ rows. map fields_of rows.items ≡ all)) (sym is) c.rows_in.ensures.rows
+
+pub returns-in-Some-clause-fault : goal.returns-in-Some-clause-fault
+returns-in-Some-clause-fault c =
+    let path = map string_bytes c.args.path.now in
+    member_told path c.args.bytes.now (value_view c.in_ok-value.value) c.in_ok-value.ensures.fault c.in_ok-value.ensures.value (value_view c.in-Some.member.now) c.rows_in.result c.in-Some.ensures
+    c.rows_in.ensures.fault
 
 pub returns-clause-fault : goal.returns-clause-fault
-returns-clause-fault c =
-    value_told c.args.bytes.now (value_view c.in_ok-value.value) None c.in_ok-value.ensures.fault c.in_ok-value.ensures.value c.in_ok-records.ensures.fault
+returns-clause-fault c = λ _.
+    let path = map string_bytes c.args.path.now in
+    member_lacks path c.args.bytes.now (value_view c.in_ok-value.value) c.in_ok-value.ensures.fault c.in_ok-value.ensures.value c.in-None.ensures
