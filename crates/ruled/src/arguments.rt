@@ -159,7 +159,7 @@ const CHOICES: [Choice; 35] = [
         short: Some('d'),
         value: "C",
         takes: Takes::Text,
-        help: "Separate fields by this character, or by tabs if it is the word tab; without it the first line sets or shows it",
+        help: "Separate fields by this character, by tabs (tab), or by blanks as in the output of ps (blanks); without it the first line sets or shows it",
         ..FLAG
     },
     Choice {

@@ -18,12 +18,12 @@ fn sign_of(word: &str) -> Option<u8> {
     }
 }
 
-// The delimiter that a word names: a sign, or a tab.
+// The delimiter that a word names: a sign, or a tab. Between words any will do.
 fn delimiter_of(word: &str) -> Option<u8> {
-    if word == "tab" || word == "\\t" {
-        return Some(b'\t');
+    match word {
+        "tab" | "\\t" | "blanks" => Some(b'\t'),
+        _ => sign_of(word),
     }
-    sign_of(word)
 }
 
 /// The file that is named, where it isn't standard input.
@@ -57,7 +57,9 @@ fn source_in_name(found: &ArgMatches) -> Option<Source> {
 // Rows with this delimiter, unless another format is asked for.
 fn rows_with(delimiter: &str, asked: Option<Kind>) -> Result<Source, &'static str> {
     let Some(delimiter) = delimiter_of(delimiter) else {
-        return Err("a delimiter is one ASCII character other than a quote, or the word tab");
+        return Err(
+            "a delimiter is one ASCII character other than a quote, or the word tab or blanks",
+        );
     };
     match asked {
         Some(Kind::Rows(Format::Json)) | Some(Kind::Rows(Format::JsonLines)) => {
@@ -127,8 +129,11 @@ fn comment_asked(found: &ArgMatches) -> Result<Option<u8>, &'static str> {
     }
 }
 
-// How fields are written: in quotes or without, unless these are characters like any other.
+// How fields are written: as words, or in quotes or without, unless these are characters like any other.
 fn fields_asked(found: &ArgMatches) -> Fields {
+    if found.get_str("delimiter") == Some("blanks") {
+        return Fields::Words;
+    }
     match found.get_str("quote") {
         Some(_) => Fields::Plain,
         None => Fields::Quoted,

@@ -139,6 +139,7 @@ fn add(alloc: Global, view: &mut Options, name: &str, value: &str) -> Result<boo
 fn fields_of(word: &str) -> Option<Fields> {
     match word {
         "plain" => Some(Fields::Plain),
+        "words" => Some(Fields::Words),
         _ => None,
     }
 }
