@@ -1,6 +1,6 @@
 -- Rows that are written when all of them are there, and a run at once and one row by row.
-use Rattle.std.proofs.Common.{◌≡◌, ◌∙◌, ◌<◌, ℕ, Bool, true, false, List, [], ◌∷◌, ◌++◌, Option, Some, None, Result, Ok, Err, OnErr, OnOk, drop, length, map, refl, sym, ap, subst, arith}
-use Rattle.std.specs.Prelude.{IfErr, not, IfSome, if◌then◌else◌}
+use Rattle.std.proofs.Common.{◌≡◌, ◌∙◌, ◌<◌, ℕ, Bool, true, false, List, [], ◌∷◌, ◌++◌, Option, Some, None, is_some, Result, Ok, Err, OnErr, OnOk, drop, length, map, refl, sym, ap, subst, arith}
+use Rattle.std.specs.Prelude.{IfErr, IfOk, not, IfSome, if◌then◌else◌}
 use Rattle.std.specs.List.{flat_map}
 use Rattle.std.specs.Option.{option_or}
 use Rattle.std.specs.Io.KnownBytes.{Appends}
@@ -32,7 +32,7 @@ use Rattle.ruled_io.specs.declared.fault.RunFault.{RunFault}
 use Rattle.ruled_io.specs.declared.fault.RunFault.TheVariants.{Input, Read, Closed, Write}
 use Rattle.ruled_table.proofs.Tables.{chosen-named as tables-named}
 use Rattle.ruled_io.proofs.Written.{begun-none, begun-whole, begins-behind, begins-longer, begins-none, grows-more, nears-more, nears-on, Goes, goes-end, goes-on}
-use Rattle.ruled_io.specs.Runs.{CausedAtOnce, CausedBy, ShowsAll, ShowsBy}
+use Rattle.ruled_io.specs.Runs.{CausedAtOnce, CausedBy, Pads, PadsAll, PadsBy, ShowsAll, ShowsBy}
 use Rattle.ruled_io.specs.Stream.{StreamsAll, streamed_text}
 use Rattle.ruled_io.specs.declared.request.Request.{Request}
 use Rattle.ruled_io.specs.declared.request.Rows.{Rows}
@@ -285,3 +285,21 @@ rows-shown given old new request count r is streams = subst (ShowsText given old
 
 pub rows-caused : {X : Type 0} (given old new : Option (List ℕ)) (request : Request) (count : ℕ) (r : Result X RunFault) → request.rows ≡ FromFirst count → IfSome given (λ bytes. StreamsAll request count bytes old new r) → EndsBefore given old new request r request.rows
 rows-caused given old new request count r is streams = subst (EndsBefore given old new request r) (sym is) (streamed-cause given old new request count r streams)
+
+-- how many rows are padded: row by row none
+pub once-padded : (given : Option (List ℕ)) (request : Request) (result : Result ℕ RunFault) → request.rows ≡ AtOnce → IfOk result (λ count. IfSome given (λ bytes. PadsAll request bytes count)) → IfOk result (λ count. IfSome given (λ bytes. Pads request bytes count))
+once-padded given request result is pads = subst (λ (how : Rows). IfOk result (λ count. IfSome given (λ bytes. PadsBy how request bytes count))) (sym is) pads
+
+none-padded : (given : Option (List ℕ)) (request : Request) (first count : ℕ) → count ≡ 0 → IfSome given (λ bytes. PadsBy (FromFirst first) request bytes count)
+none-padded None request first count none = tt
+none-padded (Some bytes) request first count none = none
+
+pub rows-padded : (given : Option (List ℕ)) (request : Request) (first : ℕ) (result : Result ℕ RunFault) → request.rows ≡ FromFirst first → IfOk result (λ count. count ≡ 0) → IfOk result (λ count. IfSome given (λ bytes. Pads request bytes count))
+rows-padded given request first (Ok count) is none = subst (λ (how : Rows). IfSome given (λ bytes. PadsBy how request bytes count)) (sym is) (none-padded given request first count none)
+rows-padded given request first (Err fault) is none = tt
+
+-- an ending has the count of its result
+pub ending-padded : (given : Option (List ℕ)) (request : Request) (result : Result ℕ RunFault) (padded : ℕ) → IfOk result (λ count. IfSome given (λ bytes. Pads request bytes count)) → IfOk result (λ count. padded ≡ count) → result_err result ≡ None
+    → IfSome given (λ bytes. Pads request bytes padded)
+ending-padded given request (Ok count) padded pads is none = subst (λ (n : ℕ). IfSome given (λ bytes. Pads request bytes n)) (sym is) pads
+ending-padded given request (Err fault) padded pads is none = absurd (true≢false (ap (λ (o : Option RunFault). is_some o) none))

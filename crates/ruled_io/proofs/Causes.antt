@@ -16,6 +16,7 @@ use Rattle.ruled_sql.specs.declared.fault.QueryFault.TheVariants as query
 use Rattle.ruled_sql.specs.declared.fault.SqlFault.{SqlFault}
 use Rattle.ruled_sql.specs.declared.fault.SqlFault.TheVariants as sql
 use Rattle.ruled_database.specs.declared.fault.TableFault.TheVariants as table
+use Rattle.ruled_table.specs.Arranged.{padded_rows}
 use Rattle.ruled_table.specs.View.{table_fault, table_text}
 use Rattle.ruled_table.specs.declared.fault.ViewFault.{ViewFault}
 use Rattle.ruled_io.specs.Databases.{LacksAnswer, LacksAnswerOf, LacksQueried, LacksSelected, LacksStored, LacksTableOf, path_in, table_of}
@@ -24,7 +25,7 @@ use Rattle.ruled_io.specs.Formats.{content_of, format_in}
 use Rattle.ruled_io.specs.Input.{format_fault, input_fault, rows_in}
 use Rattle.ruled_io.specs.Output.{failure_in, fault_written, write_part, Begins}
 use Rattle.ruled_io.specs.Requests.{format_told, hides_rows, holds_database, known_in, log_of, path_of, rows_needed, selection_of}
-use Rattle.ruled_io.specs.Runs.{AreAsked, AreRows, AreRowsAs, CausedAtOnce, LacksInput, LacksRows, LacksRowsAs, ShowsAll}
+use Rattle.ruled_io.specs.Runs.{AreAsked, AreRows, AreRowsAs, CausedAtOnce, LacksInput, LacksRows, LacksRowsAs, PadsAll, ShowsAll}
 use Rattle.ruled_io.specs.Steps.{Draws}
 use Rattle.ruled_io.specs.declared.fault.InputFault.{InputFault}
 use Rattle.ruled_io.specs.declared.fault.InputFault.TheVariants as input
@@ -302,6 +303,12 @@ module _ {X : Type 0} (given : Option (List ℕ)) (request : Request) (rows : Li
 
   pub after-drawn : ((fault : RunFault) → result ≡ Err fault → is_of_write fault ≡ true) → IfErr result (λ fault. IfSome given (λ bytes. CausedAtOnce request bytes fault old new))
   after-drawn failed = each-err result (λ fault is. if-so {P = λ bytes. AreRows (rows_needed request.view) request.source bytes rows} given are (λ bytes these. unshown-caused request bytes rows these old mid new fault (failed fault is) drawn.1 kept))
+
+-- so many rows are padded
+pub padded-by : (given : Option (List ℕ)) (request : Request) (rows : List (List Text)) (padded : ℕ) (result : Result ℕ RunFault) → IfSome given (λ bytes. AreRows (rows_needed request.view) request.source bytes rows) → padded ≡ padded_rows request.view rows
+    → IfOk result (λ count. count ≡ padded) → IfOk result (λ count. IfSome given (λ bytes. PadsAll request bytes count))
+padded-by given request rows padded (Ok count) are is same = if-so {P = λ bytes. AreRows (rows_needed request.view) request.source bytes rows} given are (λ bytes these. (rows, these, same ∙ is))
+padded-by given request rows padded (Err fault) are is same = tt
 
 -- what a result says of a write, its fault does
 pub written-err : {X : Type 0} (r : Result X RunFault) → failure_in r ≡ fault_written (result_err r)

@@ -2,6 +2,7 @@
 use Rattle.std.specs.Prelude.{◌≡◌, ◌⊎◌, ⊤, ℕ, Bool, true, false, List, Option, Some, None, option_map}
 use Rattle.std.specs.Io.KnownBytes.{Keeps}
 use Rattle.pg_layout.specs.Text.{Text}
+use Rattle.ruled_table.specs.Arranged.{padded_rows}
 use Rattle.ruled_table.specs.View.{table_fault, table_text}
 use Rattle.ruled_io.specs.Databases.{AreSelected, LacksAnswer, LacksQueried, LacksStored}
 use Rattle.ruled_io.specs.Faults.{but_line_in, fault_of_view, is_memory}
@@ -69,6 +70,10 @@ CausedAll request bytes fault =
     LacksRows (rows_needed request.view) request.source bytes fault
     ⊎ ((rows : List (List Text)) × AreRows (rows_needed request.view) request.source bytes rows × (option_map fault_of_view (table_fault request.view rows) ≡ Some fault))
 
+-- so many rows are padded
+abbrev pub PadsAll : Request → List ℕ → ℕ → Type 0
+PadsAll request bytes count = (rows : List (List Text)) × AreRows (rows_needed request.view) request.source bytes rows × (count ≡ padded_rows request.view rows)
+
 -- ---- a run
 
 -- the text that a run shows
@@ -78,6 +83,14 @@ ShowsBy (FromFirst count) request bytes text = (streamed_fault request count byt
 
 abbrev pub Shows : Request → List ℕ → Text → Type 0
 Shows request bytes text = ShowsBy request.rows request bytes text
+
+-- how many rows a run pads: row by row none
+abbrev pub PadsBy : rows.Rows → Request → List ℕ → ℕ → Type 0
+PadsBy AtOnce request bytes count = PadsAll request bytes count
+PadsBy (FromFirst first) request bytes count = count ≡ 0
+
+abbrev pub Pads : Request → List ℕ → ℕ → Type 0
+Pads request bytes count = PadsBy request.rows request bytes count
 
 -- at once: a beginning of the picture of the rows is written
 abbrev pub IsBegun : Request → List ℕ → Option (List ℕ) → Option (List ℕ) → Type 0

@@ -1,6 +1,6 @@
 //! Rows that are shown when all of them are there.
 
-ghost use Rattle.std.specs.Prelude.{◌≡◌, [], List, None, drop, map, true, false, IfErr, IfOk, IfSome, OnErr, OnOk};
+ghost use Rattle.std.specs.Prelude.{◌≡◌, [], Err, List, None, drop, map, true, false, IfErr, IfOk, IfSome, OnErr, OnOk};
 ghost use Rattle.std.specs.Io.KnownBytes.{Appends, Keeps};
 ghost use Rattle.std.specs.List.{flat_map};
 ghost use Rattle.csv.specs.Records.{fields_of};
@@ -11,12 +11,13 @@ ghost use Rattle.ruled_table.specs.Columns.{column_fault};
 ghost use Rattle.ruled_table.specs.Layouts.{layout_of, start_fault, whole_text};
 ghost use Rattle.ruled_table.specs.Plans.{Plan, is_always, plan_in};
 ghost use Rattle.ruled_table.specs.View.{all_fault, all_text, table_fault, table_text, whole_table};
-ghost use Rattle.ruled_io.specs.Faults.{is_early, is_read};
-ghost use Rattle.ruled_io.specs.Output.{TellsWrite, failure_of, write_part, Begins};
+ghost use Rattle.ruled_io.specs.Faults.{is_early, is_of_write, is_read};
+ghost use Rattle.ruled_io.specs.Output.{TellsWrite, failure_in, failure_of, write_part, Begins};
 ghost use Rattle.ruled_io.specs.Reading.{ReportsRead, read_failure};
 ghost use Rattle.ruled_io.specs.Requests.{rows_needed};
-ghost use Rattle.ruled_io.specs.Runs.{AreRows, CausedAtOnce, LacksInput, ShowsAll};
+ghost use Rattle.ruled_io.specs.Runs.{AreRows, CausedAtOnce, LacksInput, PadsAll, ShowsAll};
 ghost use Rattle.ruled_io.specs.Steps.{Draws, DrawsInMemory};
+ghost use Rattle.ruled_io.specs.declared.fault.RunFault.{RunFault};
 ghost use Rattle.ruled_table.specs.declared.options.Options.{Options};
 
 use crate::fault::{InputFault, RunFault};
@@ -26,7 +27,7 @@ use crate::output::Output;
 use crate::pieces::Pieces;
 use crate::request::Request;
 use csv::StringRecord;
-use ruled_table::{Blocks, Layout, Options, TableRows, chosen_rows};
+use ruled_table::{Blocks, Layout, Options, TableRows, chosen_rows, padded_rows};
 use std::alloc::Global;
 use std::io::{Read, Write};
 
@@ -229,20 +230,36 @@ fn show_rows<W: Write + Drop>(
     out.write(chosen.count.as_bytes())
 }
 
-/// Shows the rows that are asked of an input when all of them are there.
+// Shows what was written, and returns how many rows were padded.
+fn flush_padded<W: Write + Drop>(out: &mut Output<W>, padded: usize) -> Result<usize, RunFault>
+    ensures kept { Keeps (W.contents out.old.writer) (W.contents out.new.writer) }
+    ensures told { failure_of out.new ≡ failure_in result }
+    ensures fine { OnOk result (failure_of out.old ≡ None) }
+    ensures failed { (fault : RunFault) → result ≡ Err fault → is_of_write fault ≡ true }
+    ensures padded { IfOk result (λ count. count ≡ padded) }
+{
+    match out.flush() {
+        Ok(()) => Ok(padded),
+        Err(fault) => Err(fault),
+    }
+}
+
+/// Shows the rows that are asked of an input when all of them are there, and returns how many of them are padded.
 pub(crate) fn show_at_once<R: Read + Drop, W: Write + Drop>(
     alloc: Global,
     request: &Request,
     pieces: &mut Pieces<R>,
     out: &mut Output<W>,
-) -> Result<(), RunFault>
+) -> Result<usize, RunFault>
     ensures shown { OnOk result (IfSome (R.remaining pieces.old.input) (λ bytes. (text : _) × ShowsAll request.now bytes text × Appends (W.contents out.old.writer) (W.contents out.new.writer) text)) }
     ensures cause { IfErr result (λ fault. IfSome (R.remaining pieces.old.input) (λ bytes. CausedAtOnce request.now bytes fault (W.contents out.old.writer) (W.contents out.new.writer))) }
     ensures unwritten { IfErr result (λ fault. is_early fault ≡ true → Keeps (W.contents out.old.writer) (W.contents out.new.writer)) }
     ensures told { TellsWrite (failure_of out.old) (failure_of out.new) result }
     ensures noted { ReportsRead (read_failure pieces.new) result }
+    ensures padded { IfOk result (λ count. IfSome (R.remaining pieces.old.input) (λ bytes. PadsAll request.now bytes count)) }
 {
     let rows = read_rows(alloc, request, pieces)?;
+    let padded = padded_rows(&request.view, &rows);
     show_rows(alloc, &request.view, rows, out)?;
-    out.flush()
+    flush_padded(out, padded)
 }

@@ -1,12 +1,13 @@
 //! A run over a reader and two writers.
 
-ghost use Rattle.std.specs.Prelude.{◌≡◌, true, Some, None, IfErr, IfOk, IfSome, OnOk};
+ghost use Rattle.std.specs.Prelude.{◌≡◌, true, Ok, Some, None, IfErr, IfOk, IfSome, OnOk};
 ghost use Rattle.std.specs.Io.KnownBytes.{Appends, Keeps};
 ghost use Rattle.std.specs.Result.{result_err};
 ghost use Rattle.ruled_io.specs.Faults.{is_early, is_read, read_part, status_after};
 ghost use Rattle.ruled_io.specs.Output.{TellsWrite, failure_of, fault_written, written};
 ghost use Rattle.ruled_io.specs.Reading.{ReportsRead, read_failure, left_in};
-ghost use Rattle.ruled_io.specs.Runs.{Caused, Shows};
+ghost use Rattle.ruled_io.specs.Runs.{Caused, Pads, Shows};
+ghost use Rattle.ruled_io.specs.Stream.{StreamsAll};
 ghost use Rattle.ruled_io.specs.declared.fault.RunFault.{RunFault};
 ghost use Rattle.ruled_io.specs.declared.request.Rows.{Rows};
 
@@ -17,6 +18,7 @@ use crate::pieces::Pieces;
 use crate::request::{Request, Rows};
 use crate::stream::stream;
 use std::alloc::Global;
+use std::io;
 use std::io::{Read, Write};
 
 /// How a run ended.
@@ -24,6 +26,8 @@ use std::io::{Read, Write};
 pub struct Ending {
     /// Why no table was shown, or not all of it; `None` if all was.
     pub fault: Option<RunFault>,
+    /// How many rows had fewer fields than there are columns, and were padded.
+    pub padded: usize,
 }
 
 impl Ending {
@@ -38,39 +42,82 @@ impl Ending {
     }
 }
 
-// Shows the table of the input, at once or row by row.
+// Shows the table of the input row by row, which pads no row.
+fn show_by_row<R: Read + Drop, W: Write + Drop>(
+    alloc: Global,
+    request: &Request,
+    count: usize,
+    pieces: &mut Pieces<R>,
+    out: &mut Output<W>,
+) -> Result<usize, RunFault>
+    ensures ends { IfSome (R.remaining pieces.old.input) (λ bytes. StreamsAll request.now count bytes (W.contents out.old.writer) (W.contents out.new.writer) result) }
+    ensures told { TellsWrite (failure_of out.old) (failure_of out.new) result }
+    ensures noted { ReportsRead (read_failure pieces.new) result }
+    ensures padded { IfOk result (λ padded. padded ≡ 0) }
+{
+    match stream(alloc, request, count, pieces, out) {
+        Ok(()) => Ok(0),
+        Err(fault) => Err(fault),
+    }
+}
+
+// Shows the table of the input, at once or row by row, and returns how many rows are padded.
 fn show<R: Read + Drop, W: Write + Drop>(
     alloc: Global,
     request: &Request,
     pieces: &mut Pieces<R>,
     out: &mut Output<W>,
-) -> Result<(), RunFault>
+) -> Result<usize, RunFault>
     ensures shown { OnOk result (IfSome (R.remaining pieces.old.input) (λ bytes. (text : _) × Shows request.now bytes text × Appends (W.contents out.old.writer) (W.contents out.new.writer) text)) }
     ensures cause { IfErr result (λ fault. IfSome (R.remaining pieces.old.input) (λ bytes. Caused request.now bytes fault (W.contents out.old.writer) (W.contents out.new.writer))) }
     ensures unwritten { request.now.rows ≡ Rows.AtOnce → IfErr result (λ fault. is_early fault ≡ true → Keeps (W.contents out.old.writer) (W.contents out.new.writer)) }
     ensures told { TellsWrite (failure_of out.old) (failure_of out.new) result }
     ensures noted { ReportsRead (read_failure pieces.new) result }
+    ensures padded { IfOk result (λ count. IfSome (R.remaining pieces.old.input) (λ bytes. Pads request.now bytes count)) }
 {
     match request.rows {
         Rows::AtOnce => show_at_once(alloc, request, pieces, out),
-        Rows::FromFirst(count) => stream(alloc, request, count, pieces, out),
+        Rows::FromFirst(count) => show_by_row(alloc, request, count, pieces, out),
     }
 }
 
-// The ending of a run with this result; its fault is reported, unless nobody reads the output.
-fn ending_of<W: Write>(answer: Result<(), RunFault>, request: &Request, err: &mut W) -> Ending
+// Writes how many rows were padded, if any were. An error is the writer's.
+fn tell_padded<W: Write>(padded: usize, err: &mut W) -> io::Result<()>
+    ensures { padded ≡ 0 → Keeps (W.contents err.old) (W.contents err.new) }
+{
+    if padded == 0 {
+        return Ok(());
+    }
+    let rows = if padded == 1 { "row was" } else { "rows were" };
+    writeln!(err, "ruled: {padded} {rows} padded")?;
+    err.flush()
+}
+
+// The ending of a run with this result. Its fault is reported, unless nobody reads the output, and so are padded rows.
+fn ending_of<W: Write>(answer: Result<usize, RunFault>, request: &Request, err: &mut W) -> Ending
     ensures fault { result.fault ≡ result_err answer }
-    ensures silent { result.fault ≡ None → Keeps (W.contents err.old) (W.contents err.new) }
+    ensures padded { IfOk answer (λ count. result.padded ≡ count) }
+    ensures silent { result.fault ≡ None → result.padded ≡ 0 → Keeps (W.contents err.old) (W.contents err.new) }
     ensures closed { result.fault ≡ Some RunFault.Closed → Keeps (W.contents err.old) (W.contents err.new) }
 {
     match answer {
-        Ok(()) => Ending { fault: None },
+        Ok(padded) => {
+            let _ = tell_padded(padded, err);
+            Ending {
+                fault: None,
+                padded,
+            }
+        }
         Err(RunFault::Closed) => Ending {
             fault: Some(RunFault::Closed),
+            padded: 0,
         },
         Err(fault) => {
             let _ = fault.tell(request, err);
-            Ending { fault: Some(fault) }
+            Ending {
+                fault: Some(fault),
+                padded: 0,
+            }
         }
     }
 }
@@ -91,8 +138,8 @@ fn ending_of<W: Write>(answer: Result<(), RunFault>, request: &Request, err: &mu
 /// ends the table after the rows above it, and so does `Totals` of a row without room below them,
 /// whose lines can't be counted.
 ///
-/// Each fault is one line on `err`, except that nothing is reported where nobody reads what is written. A failed write
-/// to `err` changes no result. `Closed` and `Write` are returned if a write to `out` has failed so, and only then;
+/// Each fault is one line on `err`, except that nothing is reported where nobody reads what is written. If rows were
+/// padded, one line says how many. A failed write to `err` changes no result. `Closed` and `Write` are returned if a write to `out` has failed so, and only then;
 /// `Read` only if a read of `input` has failed.
 pub fn run<R: Read + Drop, W1: Write + Drop, W2: Write>(
     alloc: Global,
@@ -107,7 +154,8 @@ pub fn run<R: Read + Drop, W1: Write + Drop, W2: Write>(
     ensures unwritten { request.now.rows ≡ Rows.AtOnce → IfSome result.fault (λ fault. is_early fault ≡ true → Keeps (written W1.contents out.old) (written W1.contents out.new)) }
     ensures failed { failure_of out.old ≡ None → failure_of out.new ≡ fault_written result.fault }
     ensures read { IfSome result.fault (λ fault. is_read fault ≡ true → read_failure input.new ≡ read_part fault) }
-    ensures silent { result.fault ≡ None → Keeps (W2.contents err.old) (W2.contents err.new) }
+    ensures padded { result.fault ≡ None → IfSome (left_in R.remaining input.old) (λ bytes. Pads request.now bytes result.padded) }
+    ensures silent { result.fault ≡ None → result.padded ≡ 0 → Keeps (W2.contents err.old) (W2.contents err.new) }
     ensures closed { result.fault ≡ Some RunFault.Closed → Keeps (W2.contents err.old) (W2.contents err.new) }
 {
     ending_of(show(alloc, request, input, out), request, err)

@@ -1,7 +1,7 @@
 -- The rows of a table, of the rows that an input holds.
-use Rattle.std.specs.Prelude.{ℕ, ◌+◌, ◌-◌, ◌*◌, ◌==◌, nat_lt, max, List, [], ◌∷◌, ◌++◌, codes, drop, length, map, replicate, slice_index_or, string_bytes, take, Option, Some, None, is_none, if◌then◌else◌}
+use Rattle.std.specs.Prelude.{ℕ, ◌+◌, ◌-◌, ◌*◌, ◌==◌, ◌&&◌, nat_lt, max, List, [], ◌∷◌, ◌++◌, codes, drop, length, map, replicate, slice_index_or, string_bytes, take, Option, Some, None, is_none, if◌then◌else◌}
 use Rattle.std.specs.Fmt.{decimal}
-use Rattle.std.specs.List.{range_with_len}
+use Rattle.std.specs.List.{count_by, range_with_len}
 use Rattle.std.specs.Option.{option_or}
 use Rattle.pg_layout.specs.Text.{Text}
 use Rattle.ruled_table.specs.Columns.{column_fault, first_meant, places_of}
@@ -43,6 +43,18 @@ padded (header ∷ rows) = padded_to (longest (header ∷ rows)) header ∷ rows
 
 abbrev pub even : Options → List (List Text) → List (List Text)
 even options rows = if options.is_padded then padded rows else rows
+
+-- how many columns rows have by the longest one, and by names
+abbrev pub columns_in : Options → List (List Text) → ℕ
+columns_in options rows = max (longest rows) (length options.names.items)
+
+-- the rows of an input below its header, where it has one
+abbrev pub below_header : {X : Type 0} → Options → List X → List X
+below_header options rows = if options.has_header && (length options.names.items == 0) then drop 1 rows else rows
+
+-- how many of these have fewer fields, where such rows are padded
+abbrev pub padded_rows : Options → List (List Text) → ℕ
+padded_rows options rows = if options.is_padded then count_by (λ row. nat_lt (length row) (columns_in options rows)) (below_header options rows) else 0
 
 -- ---- order
 
@@ -126,12 +138,12 @@ abbrev pub count_of : ℕ → ℕ → Text
 count_of rows columns = decimal rows ++ (codes " row" ++ (plural rows ++ (codes ", " ++ (decimal columns ++ (codes " column" ++ (plural columns ++ 10 ∷ []))))))
 
 -- the rows below a header, and so many columns, where they are counted
-abbrev pub count_by : Options → List (List Text) → ℕ → Text
-count_by options rows columns = if options.is_counting then count_of (length (body_of options.has_header rows)) columns else []
+abbrev pub counted_by : Options → List (List Text) → ℕ → Text
+counted_by options rows columns = if options.is_counting then count_of (length (body_of options.has_header rows)) columns else []
 
 -- of the rows of an input those that the head allows, and the columns that are asked for
 abbrev pub count_text : Options → List (List Text) → Text
-count_text options rows = count_by options (heads options (arranged options rows)) (length (places_of options.columns.items (arranged options rows)))
+count_text options rows = counted_by options (heads options (arranged options rows)) (length (places_of options.columns.items (arranged options rows)))
 
 -- ---- all of it
 

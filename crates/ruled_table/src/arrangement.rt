@@ -1,6 +1,6 @@
 //! The rows of a table, of the rows that an input holds.
 
-ghost use Rattle.std.specs.Prelude.{◌≡◌, ◌≤◌, ◌∷◌, [], length, map, max, slice_index_or, string_bytes, IfOk, IfSome, ◌<◌};
+ghost use Rattle.std.specs.Prelude.{◌≡◌, ◌≤◌, ◌∷◌, [], count_by, length, nat_lt, map, max, slice_index_or, string_bytes, IfOk, IfSome, ◌<◌};
 ghost use Rattle.csv.specs.Records.{fields_of};
 ghost use Rattle.ruled_table.specs.Arranged as spec;
 ghost use Rattle.ruled_table.specs.Faults.{Tells};
@@ -44,6 +44,35 @@ fn padded_to(
         padded.push_field(field_at(fields, place))?;
     }
     Ok(padded)
+}
+
+// The rows of an input below its header, if it has one.
+fn below_header<'a>(options: &Options, rows: &'a [StringRecord]) -> &'a [StringRecord]
+    ensures { result.now ≡ spec.below_header options.now rows.now }
+{
+    match rows {
+        [_, records @ ..] if options.has_header && options.names.is_empty() => records,
+        _ => rows,
+    }
+}
+
+// How many rows have fewer fields than this.
+fn count_shorter(columns: usize, rows: &[StringRecord]) -> usize
+    ensures { result ≡ count_by (λ fields. nat_lt (length (fields_of fields)) columns) rows.now }
+{
+    rows.iter().filter(|fields| fields.len() < columns).count()
+}
+
+/// How many rows of an input, which are below its header, have fewer fields than there are columns: fields of the longest
+/// row, or names. It is 0 where such rows aren't padded.
+pub fn padded_rows(options: &Options, rows: &[StringRecord]) -> usize
+    ensures { result ≡ spec.padded_rows options.now (map fields_of rows.now) }
+{
+    if !options.is_padded {
+        return 0;
+    }
+    let columns = longest(rows).max(options.names.len());
+    count_shorter(columns, below_header(options, rows))
 }
 
 /// Rows of which row 0 has as many fields as the longest row. Only memory can fail.

@@ -24,7 +24,7 @@ mod table_rows;
 mod view;
 mod widths;
 
-pub use crate::arrangement::{named, padded};
+pub use crate::arrangement::{named, padded, padded_rows};
 pub use crate::blocks::Blocks;
 pub use crate::bounds::Bounds;
 pub use crate::fault::ViewFault;

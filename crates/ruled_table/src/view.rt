@@ -46,7 +46,7 @@ fn count_text(
     rows: &[StringRecord],
     columns: usize,
 ) -> Result<String, AllocError>
-    ensures { IfOk result (λ text. string_bytes text ≡ spec.count_by options.now (map fields_of rows.now) columns) }
+    ensures { IfOk result (λ text. string_bytes text ≡ spec.counted_by options.now (map fields_of rows.now) columns) }
 {
     if !options.is_counting {
         return Ok(String::new(alloc));

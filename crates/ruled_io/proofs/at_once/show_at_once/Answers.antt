@@ -5,7 +5,7 @@ use Rattle.ruled_io.specs.Reading.{read_failure}
 use Rattle.ruled_io.specs.Requests.{rows_needed}
 use Rattle.ruled_io.specs.Runs.{AreRows, CausedAtOnce, LacksInput}
 use Rattle.ruled_io.proofs.AtOnce.{draws-unread, no-read, read-handed, writes-only}
-use Rattle.ruled_io.proofs.Causes.{after-drawn, draws-caused, early-handed, handed-known, if-so, lacks-caused, late, shown-drawn, unwritten-told}
+use Rattle.ruled_io.proofs.Causes.{after-drawn, draws-caused, early-handed, handed-known, if-so, padded-by, lacks-caused, late, shown-drawn, unwritten-told}
 use Rattle.ruled_io.proofs.at_once.show_at_once.Goals as goal
 
 pub returns-in_err-rows-clause-cause : goal.returns-in_err-rows-clause-cause
@@ -40,22 +40,22 @@ returns-clause-shown g c =
     let request = c.args.request.now in
     let given = g.R.Read.remaining c.args.pieces.now.input in
     let rows : List (List (List ℕ)) = map fields_of c.in_ok-rows.rows.items in
-    shown-drawn given request rows (g.W.Write.contents c.args.out.now.writer) (g.W.Write.contents c.show_rows.new.out.writer) (g.W.Write.contents c.flush.new.self.writer) c.flush.result
-    c.in_ok-rows.ensures.rows c.in_ok-show_rows.ensures.draws c.flush.ensures.kept
+    shown-drawn given request rows (g.W.Write.contents c.args.out.now.writer) (g.W.Write.contents c.show_rows.new.out.writer) (g.W.Write.contents c.flush_padded.new.out.writer) c.flush_padded.result
+    c.in_ok-rows.ensures.rows c.in_ok-show_rows.ensures.draws c.flush_padded.ensures.kept
 
 pub returns-clause-cause : goal.returns-clause-cause
 returns-clause-cause g c =
     let request = c.args.request.now in
     let given = g.R.Read.remaining c.args.pieces.now.input in
     let rows : List (List (List ℕ)) = map fields_of c.in_ok-rows.rows.items in
-    after-drawn given request rows (g.W.Write.contents c.args.out.now.writer) (g.W.Write.contents c.show_rows.new.out.writer) (g.W.Write.contents c.flush.new.self.writer) c.flush.result
-    c.in_ok-rows.ensures.rows c.in_ok-show_rows.ensures.draws c.flush.ensures.kept c.flush.ensures.failed
+    after-drawn given request rows (g.W.Write.contents c.args.out.now.writer) (g.W.Write.contents c.show_rows.new.out.writer) (g.W.Write.contents c.flush_padded.new.out.writer) c.flush_padded.result
+    c.in_ok-rows.ensures.rows c.in_ok-show_rows.ensures.draws c.flush_padded.ensures.kept c.flush_padded.ensures.failed
 
 pub returns-in_err-rows-clause-told : goal.returns-in_err-rows-clause-told
 returns-in_err-rows-clause-told g c = λ none. none ∙ unwritten-told c.in_err-rows.field-0.0 c.from_residual.result c.in_err-rows.ensures.unwritten c.from_residual.ensures.1
 
 pub returns-clause-unwritten : goal.returns-clause-unwritten
-returns-clause-unwritten g c = late _ c.flush.result c.flush.ensures.failed
+returns-clause-unwritten g c = late _ c.flush_padded.result c.flush_padded.ensures.failed
 
 pub returns-in_err-show_rows-clause-noted : goal.returns-in_err-show_rows-clause-noted
 returns-in_err-show_rows-clause-noted g c =
@@ -64,4 +64,10 @@ returns-in_err-show_rows-clause-noted g c =
     read-handed failed found c.from_residual-in_err-show_rows.result c.from_residual-in_err-show_rows.ensures.1 (draws-unread failed _ _ _ _ found c.in_err-show_rows.ensures.draws)
 
 pub returns-clause-noted : goal.returns-clause-noted
-returns-clause-noted g c = no-read (read_failure c.read_rows.new.pieces) c.flush.result (writes-only c.flush.result c.flush.ensures.failed)
+returns-clause-noted g c = no-read (read_failure c.read_rows.new.pieces) c.flush_padded.result (writes-only c.flush_padded.result c.flush_padded.ensures.failed)
+
+pub returns-clause-padded : goal.returns-clause-padded
+returns-clause-padded g c =
+    let request = c.args.request.now in
+    let rows : List (List (List ℕ)) = map fields_of c.in_ok-rows.rows.items in
+    padded-by (g.R.Read.remaining c.args.pieces.now.input) request rows c.padded_rows.result c.flush_padded.result c.in_ok-rows.ensures.rows c.padded_rows.ensures c.flush_padded.ensures.padded
