@@ -8,3 +8,4 @@ pub mod SortedRows
 pub mod DigitsAlone
 pub mod WordsOfColumns
 mod Rulesets
+pub mod NaturalWidths

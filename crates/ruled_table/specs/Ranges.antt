@@ -1,6 +1,7 @@
 -- How narrow and how wide columns may be.
-use Rattle.std.specs.Prelude.{ℕ, ◌+◌, ◌-◌, min, List, [], map, slice_index_or, if◌then◌else◌}
-use Rattle.std.specs.List.{range_with_len}
+use Rattle.std.specs.Prelude.{ℕ, ◌+◌, ◌-◌, ◌^◌, min, nat_lt, Bool, List, [], length, map, slice_index_or, if◌then◌else◌}
+use Rattle.std.specs.List.{list_all, range_with_len}
+use Rattle.csv.specs.Records.{Row}
 use Rattle.pg_layout.specs.Records.{columns_of}
 use Rattle.pg_layout.specs.Text.{Text, greatest, text_width_of}
 use Rattle.pg_config.specs.Config.{Config, count_vertical}
@@ -14,6 +15,10 @@ use Rattle.ruled_table.specs.declared.options.Options.{Options}
 -- how many terminal columns the widest text of a column takes
 abbrev pub widest_text : List (List Text) → ℕ → ℕ
 widest_text rows column = greatest (map (λ row. text_width_of (slice_index_or row column [])) rows)
+
+-- the text of each record has fewer bytes than memory may hold
+abbrev pub are_counted : List Row → Bool
+are_counted records = list_all (λ row. nat_lt (length row.bytes) (2 ^ 63)) records
 
 module _ (options : Options) (rows : List (List Text)) where
   -- with enough room a column is as wide as its widest text, with a space at each side, and its limit allow

@@ -1,21 +1,22 @@
 -- What a table looks like whose first rows are known, and the texts of the others within its columns.
-use Rattle.std.specs.Prelude.{◌≡◌, ◌≢◌, ℕ, ◌+◌, ◌-◌, nat_le, List, [], ◌∷◌, length, slice_index_or, Option, Some, None, Result, Ok, Err, if◌then◌else◌}
+use Rattle.std.specs.Prelude.{◌≡◌, ◌≢◌, false, ℕ, ◌+◌, ◌-◌, nat_le, List, [], ◌∷◌, length, slice_index_or, Option, Some, None, Result, Ok, Err, if◌then◌else◌}
 use Rattle.std.specs.Option.{option_or}
 use Rattle.pg_layout.specs.Records.{columns_of}
 use Rattle.pg_layout.specs.Text.{Text, text_width_of}
 use Rattle.pg_layout.specs.declared.dimension.ConstantDimension.{ConstantDimension}
-use Rattle.pg_config.specs.Config.{Config}
+use Rattle.pg_layout.specs.declared.position.Position.{Position}
+use Rattle.pg_config.specs.Config.{Config, get_formatting}
 use Rattle.pg_fit.specs.Cutting.{cut_text}
 use Rattle.pg_fit.specs.Wrapping.{wrapped}
 use Rattle.pg_table.specs.Fitted.{fit_fault, fitted_table, fitted_texts}
-use Rattle.pg_table.specs.Natural.{natural_table}
+use Rattle.pg_table.specs.Natural.{natural_table, paddings}
 use Rattle.pg_table.specs.Natural as natural
 use Rattle.pg_table.specs.Printing.{sizes_fault}
 use Rattle.pg_table.specs.declared.fault.TableFault.{TableFault}
 use Rattle.pg_table.specs.declared.fault.TableFault.TheVariants as table
 use Rattle.pg_table.specs.declared.overflow.Overflow.{Overflow}
 use Rattle.pg_table.specs.declared.overflow.Overflow.TheVariants.{Wrap, Cut}
-use Rattle.pg_table.specs.declared.sizes.Axis.TheVariants.{Columns}
+use Rattle.pg_table.specs.declared.sizes.Axis.TheVariants.{Columns, Rows}
 use Rattle.ruled_table.specs.Bounds.{are_told, width_of}
 use Rattle.ruled_table.specs.Columns.{ellipsis}
 use Rattle.ruled_table.specs.Ranges.{kept_limits}
@@ -28,6 +29,14 @@ use Rattle.ruled_table.specs.declared.options.Options.{Options}
 -- what the table of these rows looks like
 abbrev pub first_config : Options → List (List Text) → Config
 first_config options rows = with_line (line_in options) (length rows) (columns_of rows) (sided_config options rows)
+
+-- a space is at each side of every text and nothing above or below it, no text is trimmed, and no cell has a span
+pub record HasSpaces (config : Config) : Type 0 where
+  pub beside : (p : Position) → paddings Columns config p ≡ 2
+  pub above : (p : Position) → paddings Rows config p ≡ 0
+  pub across : (p : Position) → (get_formatting config p).horizontal_trim ≡ false
+  pub down : (p : Position) → (get_formatting config p).vertical_trim ≡ false
+  pub spans : config.spans ≡ []
 
 -- ---- the widths of its columns
 

@@ -1,14 +1,21 @@
 //! How narrow and how wide columns may be.
 
-ghost use Rattle.std.specs.Prelude.{◌≡◌, IfOk};
-ghost use Rattle.ruled_table.specs.LentRows.{texts_of};
+ghost use Rattle.std.specs.Prelude.{◌≡◌, ◌<◌, ◌^◌, ℕ, [], length, map, max, slice_index, slice_index_or, true, IfOk};
+ghost use Rattle.std.specs.List.{list_all, range_with_len};
+ghost use Rattle.csv.specs.Records.{fields_of, text_of};
+ghost use Rattle.pg_layout.specs.Records.{columns_of};
+ghost use Rattle.pg_layout.specs.Text.{is_plain_byte, text_width_of};
+ghost use Rattle.ruled_table.specs.Columns.{drawn_at};
+ghost use Rattle.ruled_table.specs.LentRows.{fields_at, texts_of};
 ghost use Rattle.ruled_table.specs.Ranges as spec;
 
 use crate::bounds::limit_of;
-use crate::columns::told_of;
+use crate::columns::{drawn_at, field_at, told_of};
 use crate::lent_rows::{LentRows, text_in};
 use crate::options::Options;
+use crate::rows::has_plain_fields;
 use crate::sides::{body_of, is_numeric};
+use csv::StringRecord;
 use pg_config::SpannedConfig;
 use pg_fit::{ColumnRange, narrow};
 use pg_layout::{Records, get_text_width};
@@ -23,6 +30,54 @@ pub(crate) fn widest_text(rows: LentRows<'_>, column: usize) -> usize
         width = get_text_width(text_in(fields, rows.places, column)).max(width);
     }
     width
+}
+
+// How many terminal columns the text of a row in a column takes: a plain one as many as it has bytes.
+#[inline(always)]
+fn width_at(is_plain: bool, fields: &StringRecord, place: Option<usize>) -> usize
+    requires { is_plain ≡ true → list_all (list_all is_plain_byte) (fields_of fields.now) ≡ true }
+    ensures { result ≡ text_width_of (drawn_at (fields_of fields.now) place) }
+{
+    match place {
+        Some(place) if is_plain => field_at(fields, place).len(),
+        _ => get_text_width(drawn_at(fields, place)),
+    }
+}
+
+// Raises the widths of columns to those of the texts of a row.
+fn raise_to_row(fields: &StringRecord, places: &[Option<usize>], widths: &mut [usize])
+    requires { length widths.old ≡ length places.now }
+    ensures same { length widths.new ≡ length widths.old }
+    ensures raised { (k : ℕ) → k < length places.now → slice_index widths.new k ≡ max (slice_index widths.old k) (text_width_of (slice_index_or (fields_at places.now (fields_of fields.now)) k [])) }
+    ensures counted { length (text_of fields.now) < 2 ^ 63 }
+{
+    let is_plain = has_plain_fields(fields);
+    for column in 0..places.len() {
+        widths[column] = widths[column].max(width_at(is_plain, fields, places[column]));
+    }
+}
+
+// Raises widths of 0 to those of the widest text of each column.
+fn raise_to_rows(rows: LentRows<'_>, widths: &mut [usize])
+    requires many { length widths.old ≡ columns_of (texts_of rows) }
+    requires zeros { (k : ℕ) → slice_index widths.old k ≡ 0 }
+    ensures same { length widths.new ≡ length widths.old }
+    ensures widths { widths.new ≡ map (spec.widest_text (texts_of rows.entry)) (range_with_len 0 (columns_of (texts_of rows.entry))) }
+    ensures counted { spec.are_counted rows.entry.records.now ≡ true }
+{
+    for fields in rows.records {
+        raise_to_row(fields, rows.places, widths);
+    }
+}
+
+/// How many terminal columns the widest text of each column takes. Each record is read once.
+pub(crate) fn widest_texts(alloc: Global, rows: LentRows<'_>) -> Result<Vec<usize>, AllocError>
+    ensures widths { IfOk result (λ widths. widths.items ≡ map (spec.widest_text (texts_of rows.entry)) (range_with_len 0 (columns_of (texts_of rows.entry)))) }
+    ensures counted { IfOk result (λ _. spec.are_counted rows.entry.records.now ≡ true) }
+{
+    let mut widths = vec![in alloc; 0; rows.count_columns()]?;
+    raise_to_rows(rows, &mut widths);
+    Ok(widths)
 }
 
 // How narrow a column may get before columns of numbers are cut, and how wide it is with enough room.

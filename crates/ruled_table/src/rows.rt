@@ -2,9 +2,9 @@
 //! made anew.
 
 ghost use Rattle.std.specs.Cow.{cow_str_bytes};
-ghost use Rattle.std.specs.Prelude.{◌≡◌, ◌+◌, ◌*◌, ◌<◌, length, map, true, IfOk};
+ghost use Rattle.std.specs.Prelude.{◌≡◌, ◌+◌, ◌*◌, ◌^◌, ◌<◌, length, map, true, IfOk};
 ghost use Rattle.std.specs.List.{list_all};
-ghost use Rattle.csv.specs.Records.{fields_of};
+ghost use Rattle.csv.specs.Records.{fields_of, text_of};
 ghost use Rattle.pg_layout.specs.Text.{is_plain_byte};
 ghost use Rattle.ruled_table.specs.Arranged.{both_ends, ends_of, gap_of, tails};
 ghost use Rattle.ruled_table.specs.Shown.{heads, seen_text, shown_text, limit_of};
@@ -73,6 +73,14 @@ pub(crate) fn stands(options: &Options, text: &str) -> bool
         return true;
     }
     is_plain_text(text)
+}
+
+/// Whether each field of a record is a line of ASCII. All are tested at once.
+pub(crate) fn has_plain_fields(fields: &StringRecord) -> bool
+    ensures plain { result ≡ true → list_all (list_all is_plain_byte) (fields_of fields.now) ≡ true }
+    ensures counted { length (text_of fields.now) < 2 ^ 63 }
+{
+    is_plain(fields.as_byte_record().as_slice())
 }
 
 /// Whether each field of a record is a line of ASCII that is shown unchanged. All are tested at once, which costs less

@@ -1,7 +1,7 @@
 //! The look of a table whose first rows are known, and the texts of the others within its columns.
 
 ghost use Rattle.std.specs.Cow.{cow_str_bytes};
-ghost use Rattle.std.specs.Prelude.{◌≡◌, string_bytes, IfOk};
+ghost use Rattle.std.specs.Prelude.{◌≡◌, ◌<◌, ◌+◌, ◌^◌, ℕ, length, slice_index, string_bytes, true, IfOk};
 ghost use Rattle.ruled_table.specs.Faults.{Tells, totals_of};
 ghost use Rattle.ruled_table.specs.LentRows.{texts_of};
 ghost use Rattle.ruled_table.specs.Widths as spec;
@@ -9,7 +9,7 @@ ghost use Rattle.ruled_table.specs.Widths as spec;
 use crate::fault::{ViewFault, fault_in};
 use crate::lent_rows::LentRows;
 use crate::options::Options;
-use crate::ranges::kept_limits;
+use crate::ranges::{kept_limits, widest_texts};
 use crate::table::{line_in, set_line_below, sided_config};
 use pg_config::SpannedConfig;
 use pg_fit::{cut, wrap};
@@ -32,15 +32,36 @@ pub fn first_config(
     Ok(config)
 }
 
-// The natural sizes of a table of these records.
+// Adds a space at each side of texts to the widths of their columns, unless one then exceeds `usize::MAX`.
+fn add_spaces(widths: &mut [usize]) -> bool
+    ensures same { length widths.new ≡ length widths.old }
+    ensures spaced { result ≡ true → (k : ℕ) → k < length widths.old → slice_index widths.new k ≡ slice_index widths.old k + 2 }
+    ensures counted { result ≡ true → (k : ℕ) → k < length widths.old → slice_index widths.old k + 2 < 2 ^ 64 }
+{
+    for k in 0..widths.len() {
+        match widths[k].checked_add(2) {
+            Some(width) => widths[k] = width,
+            None => return false,
+        }
+    }
+    true
+}
+
+// The natural sizes of a table of these records: the widths of its columns, for which each text is measured once. Rows
+// have no heights here, since each is as high as its highest cell when it is drawn.
 fn natural_sizes(
     alloc: Global,
     config: &SpannedConfig,
     records: LentRows<'_>,
 ) -> Result<ConstantDimension, TableFault>
+    requires { spec.HasSpaces config.now }
     ensures widths { IfOk result (λ sizes. sizes.0.items ≡ spec.natural_widths config.now (texts_of records.entry)) }
     ensures fault { spec.TellsTable (spec.natural_fault config.now (texts_of records.entry)) result }
 {
+    let mut widths = widest_texts(alloc, records)?;
+    if records.count_columns() > 0 && add_spaces(&mut widths) {
+        return Ok(ConstantDimension(widths, Vec::new(alloc)));
+    }
     NaturalTable::new(records, config, &NoColors).natural_dimension(alloc)
 }
 
@@ -68,6 +89,7 @@ fn sizes_of(
     config: &SpannedConfig,
     records: LentRows<'_>,
 ) -> Result<ConstantDimension, TableFault>
+    requires { spec.HasSpaces config.now }
     ensures widths { IfOk result (λ sizes. spec.widths_in sizes ≡ spec.widths_of options.now config.now (texts_of records.entry)) }
     ensures fault { spec.TellsTable (spec.widths_fault options.now config.now (texts_of records.entry)) result }
 {
@@ -84,6 +106,7 @@ pub fn sizes_of_rows(
     config: &SpannedConfig,
     rows: LentRows<'_>,
 ) -> Result<ConstantDimension, ViewFault>
+    requires { spec.HasSpaces config.now }
     ensures widths { IfOk result (λ sizes. spec.widths_in sizes ≡ spec.widths_of options.now config.now (texts_of rows.entry)) }
     ensures fault { Tells (totals_of (spec.widths_fault options.now config.now (texts_of rows.entry))) result }
 {

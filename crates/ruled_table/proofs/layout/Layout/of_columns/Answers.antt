@@ -1,15 +1,19 @@
-use Rattle.std.proofs.Common.{◌≡◌, ◌∙◌, ℕ, List, Option, refl, string_bytes, sym, ap, ap₂, rules}
+use Rattle.std.proofs.Common.{◌≡◌, ◌∙◌, ℕ, List, Option, refl, string_bytes, sym, ap, ap₂, subst, rules}
 use Rattle.csv.specs.Records.{Row, fields_of}
 use Rattle.pg_layout.specs.Text.{Text}
 use Rattle.pg_config.specs.Config.{Config}
 use Rattle.ruled_table.specs.Faults.{totals_of}
 use Rattle.ruled_table.specs.Layouts.{but_last, plan_fault}
 use Rattle.ruled_table.specs.LentRows.{fields_at, texts_at}
-use Rattle.ruled_table.specs.Widths.{first_config, widths_fault, widths_in, widths_of}
+use Rattle.ruled_table.specs.Widths.{HasSpaces, first_config, widths_fault, widths_in, widths_of}
 use Rattle.ruled_table.specs.declared.fault.ViewFault.{ViewFault}
+use Rattle.ruled_table.proofs.NaturalWidths.{first-spaces}
 use Rattle.ruled_table.proofs.RowsInParts.{but-last-map, plan-made}
 use Rattle.ruled_table.proofs.Tables.{plain-config, told_on}
 use Rattle.ruled_table.proofs.layout.Layout.of_columns.Goals as goal
+
+pub sizes_of_rows-requires : goal.sizes_of_rows-requires
+sizes_of_rows-requires c = subst HasSpaces (sym c.in_ok-config.ensures) (first-spaces c.args.options.now _)
 
 pub returns-clause-layout : goal.returns-clause-layout
 returns-clause-layout c =
