@@ -1,4 +1,4 @@
-use Rattle.std.proofs.Common.{◌≡◌, ◌∙◌, ◌++◌, List, ℕ, arith, ap}
+use Rattle.std.proofs.Common.{◌∙◌, ◌++◌, arith, ap}
 use Rattle.csv.specs.Records.{fields_of}
 use Rattle.ruled_csv.proofs.CutWords.{line_first, line_more}
 use Rattle.ruled_csv.proofs.words.line_of.Goals as goal

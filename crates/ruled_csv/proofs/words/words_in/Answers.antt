@@ -1,4 +1,4 @@
-use Rattle.std.proofs.Common.{◌≡◌, ◌∙◌, sym, ap}
+use Rattle.std.proofs.Common.{◌∙◌, sym, ap}
 use Rattle.csv.specs.Records.{fields_of}
 use Rattle.ruled_csv.proofs.CutWords.{line_filled}
 use Rattle.ruled_csv.specs.Words as spec

@@ -1,4 +1,4 @@
-use Rattle.std.proofs.Common.{◌≡◌, ◌∙◌, arith, sym}
+use Rattle.std.proofs.Common.{◌∙◌, arith, sym}
 use Rattle.csv.specs.Records.{fields_of, partial_of}
 use Rattle.ruled_csv.proofs.CutWords.{words_step}
 use Rattle.ruled_csv.proofs.words.words_of.Goals as goal
