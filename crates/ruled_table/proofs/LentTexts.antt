@@ -1,5 +1,5 @@
 -- Rows whose texts are fields of records, with names, sizes and escapes, and those that are shown.
-use Rattle.std.proofs.Common.{◌≡◌, ◌≢◌, ◌<◌, ◌≤◌, ◌∙◌, ◌∷◌, ℕ, zero, suc, Bool, true, false, List, Option, [], map, length, slice_index_or, All, encode_utf8_all, flat_map, refl, sym, ap, arith, ap₂, Some, None, ◌==◌, ◌||◌, ◌++◌, not, chars, encode_utf8, IsUtf8, ◌+◌, ◌-◌, ◌/◌, max, take, drop, get_or, append_assoc, cond, nat_lt, ◌&&◌}
+use Rattle.std.proofs.Common.{◌≡◌, ◌≢◌, ◌<◌, ◌≤◌, ◌∙◌, ◌∷◌, ℕ, zero, suc, Bool, true, false, List, Option, [], map, length, slice_index_or, All, encode_utf8_all, flat_map, refl, sym, ap, arith, ap₂, Some, None, ◌==◌, ◌||◌, ◌++◌, not, chars, encode_utf8, IsUtf8, ◌+◌, ◌-◌, ◌/◌, max, take, drop, get_or, append_assoc}
 use Rattle.std.proofs.lemmas.List.{length-map, drop-map, drop_more, map-append, take-map, take-take, take_more}
 use Rattle.std.proofs.lemmas.List.Elements.{All-map}
 use Rattle.std.proofs.Math.Utf8.{encode}
@@ -18,11 +18,11 @@ use Rattle.ruled_table.specs.LentRows.{fields_at, texts_at, pairs_of}
 use Rattle.ruled_table.specs.declared.options.Options.{Options}
 use Rattle.ruled_table.specs.declared.blocks.Blocks.{Blocks}
 use Rattle.std.proofs.lemmas.Option.{same_Some, none-some}
-use Rattle.std.specs.List.{count_by, list_all, range_with_len, fold, zip}
+use Rattle.std.specs.List.{list_all, range_with_len, fold, zip}
 use Rattle.std.proofs.lemmas.Bool.{and_parts, true≢false}
 use Rattle.std.proofs.lemmas.List.FromFn.{map-range_with_len_more}
-use Rattle.ruled_table.specs.Arranged.{below_header, both_ends, columns_in, gap_of, last_of, padded_rows}
-use Rattle.std.proofs.lemmas.List.Sums.{fold-append, sum_by-cons}
+use Rattle.ruled_table.specs.Arranged.{both_ends, gap_of, last_of}
+use Rattle.std.proofs.lemmas.List.Sums.{fold-append}
 use Rattle.pg_layout.specs.declared.alignment.AlignmentHorizontal.{AlignmentHorizontal}
 use Rattle.pg_config.specs.Settings.{Settings}
 use Rattle.ruled_table.specs.Sides.{body_of, with_side, with_sides}
@@ -301,26 +301,3 @@ pub sides_more : (side : ℕ → AlignmentHorizontal) (n : ℕ) (settings : Sett
 sides_more side n settings =
     let step : Settings AlignmentHorizontal → ℕ → Settings AlignmentHorizontal = λ settings column. with_side column (side column) settings in
     ap (λ (ns : List ℕ). fold step settings ns) (range_more n) ∙ fold-append step settings (range_with_len 0 n) (n ∷ [])
-
--- ---- rows that are padded
-
--- those below a header are rows of these fields
-below-fields : (is_below : Bool) (rows : List Row) → map fields_of (if is_below then drop 1 rows else rows) ≡ (if is_below then drop 1 (map fields_of rows) else map fields_of rows)
-below-fields true rows = sym (drop-map 1 rows)
-below-fields false rows = refl
-
-shorter-fields : (columns : ℕ) (rows : List Row) → count_by (λ (fields : Row). nat_lt (length (fields_of fields)) columns) rows ≡ count_by (λ (row : List Text). nat_lt (length row) columns) (map fields_of rows)
-shorter-fields columns [] = refl
-shorter-fields columns (row ∷ rows) =
-    sum_by-cons (λ (fields : Row). cond (nat_lt (length (fields_of fields)) columns) 1 0) row rows
-    ∙ ap (λ (n : ℕ). cond (nat_lt (length (fields_of row)) columns) 1 0 + n) (shorter-fields columns rows)
-    ∙ sym (sum_by-cons (λ (it : List Text). cond (nat_lt (length it) columns) 1 0) (fields_of row) (map fields_of rows))
-
--- how many of them are
-pub shorter-padded : (options : Options) (rows : List Row) (columns : ℕ) → columns ≡ columns_in options (map fields_of rows) → options.is_padded ≡ true
-    → count_by (λ (fields : Row). nat_lt (length (fields_of fields)) columns) (below_header options rows) ≡ padded_rows options (map fields_of rows)
-shorter-padded options rows columns all is =
-    shorter-fields columns (below_header options rows)
-    ∙ ap (λ (below : List (List Text)). count_by (λ (row : List Text). nat_lt (length row) columns) below) (below-fields (options.has_header && (length options.names.items == 0)) rows)
-    ∙ ap (λ (n : ℕ). count_by (λ (row : List Text). nat_lt (length row) n) (below_header options (map fields_of rows))) all
-    ∙ rw is refl
