@@ -1,13 +1,13 @@
-//! A list of shifts, in which a day is one cell, and the same as HTML.
+//! A list of shifts: a day is one cell, lines fill 30 terminal columns, and the same as HTML.
 //!
 //! ```text
-//! │Monday │early│Ada    │
-//! │       ├─────┼───────┤
+//! │Monday │early│Ada           │
+//! │       ├─────┼──────────────┤
 //! ```
 
 use crate::rows::rows_of;
 use pg_layout::Borders;
-use pg_table::{Table, TableFault};
+use pg_table::{Overflow, Table, TableFault};
 use std::alloc::Global;
 
 const ROWS: &[&[&str]] = &[
@@ -19,7 +19,10 @@ const ROWS: &[&[&str]] = &[
 
 /// The shifts as a table.
 pub(crate) fn list(alloc: Global) -> Result<String, TableFault> {
-    shifts(alloc)?.to_string(alloc)
+    let shifts = shifts(alloc)?;
+    shifts
+        .filled(alloc, 30, 2, Overflow::Cut("…"))?
+        .to_string(alloc)
 }
 
 /// The shifts as HTML.

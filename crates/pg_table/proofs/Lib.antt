@@ -16,6 +16,7 @@ pub mod RaisedWidths
 pub mod ToldTables
 pub mod SpannedWidths
 pub mod FittedTables
+pub mod Filled
 pub mod Html
 pub mod Rearranged
 pub mod Setters

@@ -10,6 +10,10 @@ use pg_fit::OverlaidRecords;
 use pg_layout::{Colors, ConstantDimension, ExactRecords, PeekableRecords};
 use std::alloc::{Allocator, Global};
 
+mod filling;
+
+pub use crate::fitted::filling::FilledTable;
+
 /// A table whose columns were narrowed ([`NaturalTable::within`]), at the natural sizes of its
 /// texts, of which those that were too wide are wrapped or cut. If it keeps spans, its columns have
 /// the narrowed widths. Only these widths and the new texts take memory: records, settings and

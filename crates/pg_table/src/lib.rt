@@ -15,7 +15,7 @@ mod spanning;
 mod table;
 
 pub use crate::fault::TableFault;
-pub use crate::fitted::FittedTable;
+pub use crate::fitted::{FilledTable, FittedTable};
 pub use crate::heights::heights_for;
 pub use crate::laws::{
     columns_are_widened_as_needed, looks_are_narrow, natural_heights_show_all,

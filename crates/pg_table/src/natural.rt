@@ -195,7 +195,10 @@ where
     }
 
     // The natural sizes of a table with cells that has no fault.
-    fn sized<A: Allocator + Copy>(&self, alloc: A) -> Result<ConstantDimension<A>, TableFault>
+    pub(crate) fn sized<A: Allocator + Copy>(
+        &self,
+        alloc: A,
+    ) -> Result<ConstantDimension<A>, TableFault>
         requires { is_empty (printed_table_of R.texts R.columns C.color (natural_parts self.now)) ≡ false }
         ensures widths { IfOk result (λ d. d.0.items ≡ sizes_of R.texts R.columns Columns (natural_parts self.now)) }
         ensures heights { IfOk result (λ d. d.1.items ≡ sizes_of R.texts R.columns Rows (natural_parts self.now)) }

@@ -17,6 +17,7 @@ use std::convert::AsStr;
 use std::marker::Model;
 
 mod crossings;
+mod filling;
 mod html;
 mod lines;
 mod merging;

@@ -1,9 +1,9 @@
-//! What becomes of tables by calls that merge, rearrange or export them, as it was worked out by hand.
+//! What becomes of tables by calls that merge, fill, rearrange or export them, as it was worked out by hand.
 
 use crate::case::CaseFault;
 use crate::values::Fact;
 use pg_layout::{AlignmentHorizontal, ExactRecords, Position};
-use pg_table::{Table, TableFault};
+use pg_table::{Overflow, Table, TableFault};
 use pg_testing::refusing::Refusing;
 use pg_testing::report::Report;
 use pg_testing::trial::{Outcome, Trial};
@@ -25,6 +25,8 @@ enum Call {
 enum Export {
     /// Its picture.
     Picture,
+    /// The picture whose lines are so wide: a column takes what they lack, and longer texts are cut.
+    Filled(usize, usize),
     /// The picture of its columns as rows.
     Transposed,
     /// HTML.
@@ -62,6 +64,48 @@ const CASES: &[Case] = &[
         call: Call::Merged(1),
         export: Export::Picture,
         text: "+-+\n|a|\n+-+\n|a|\n+-+",
+    },
+    Case {
+        name: "the last column takes what lines lack",
+        rows: &[&["ab", "c"], &["d", "e"]],
+        call: Call::Nothing,
+        export: Export::Filled(10, 1),
+        text: "+--+-----+\n|ab|c    |\n+--+-----+\n|d |e    |\n+--+-----+",
+    },
+    Case {
+        name: "the first column takes what lines lack",
+        rows: &[&["ab", "c"], &["d", "e"]],
+        call: Call::Nothing,
+        export: Export::Filled(10, 0),
+        text: "+------+-+\n|ab    |c|\n+------+-+\n|d     |e|\n+------+-+",
+    },
+    Case {
+        name: "lines that lack nothing are narrowed",
+        rows: &[&["ab", "c"], &["d", "e"]],
+        call: Call::Nothing,
+        export: Export::Filled(5, 0),
+        text: "+-+-+\n|…|c|\n+-+-+\n|d|e|\n+-+-+",
+    },
+    Case {
+        name: "a column that is not there takes nothing",
+        rows: &[&["ab", "c"], &["d", "e"]],
+        call: Call::Nothing,
+        export: Export::Filled(10, 2),
+        text: "+--+-+\n|ab|c|\n+--+-+\n|d |e|\n+--+-+",
+    },
+    Case {
+        name: "a panel is over a column that takes what lines lack",
+        rows: &[&["Bill", ""], &["tea", "3"]],
+        call: Call::Panel,
+        export: Export::Filled(11, 1),
+        text: "+---+-----+\n|  Bill   |\n+---+-----+\n|tea|    3|\n+---+-----+",
+    },
+    Case {
+        name: "a table without rows is not filled",
+        rows: &[],
+        call: Call::Nothing,
+        export: Export::Filled(10, 0),
+        text: "",
     },
     Case {
         name: "columns become rows",
@@ -125,6 +169,9 @@ fn text_of<A: Allocator + Copy>(alloc: A, case: &Case) -> Result<String<A>, Tabl
     let table = changed(table_of(alloc, case.rows)?, case.call)?;
     match case.export {
         Export::Picture => table.to_string(alloc),
+        Export::Filled(width, column) => table
+            .filled(alloc, width, column, Overflow::Cut("…"))?
+            .to_string(alloc),
         Export::Transposed => table.transposed(alloc)?.to_string(alloc),
         Export::Html => table.to_html(alloc).map_err(TableFault::from),
     }

@@ -1,0 +1,180 @@
+//! Fitted tables of which one column takes what the lines lack of a width.
+
+ghost use Rattle.std.specs.Prelude.{◌≡◌, ◌+◌, ◌^◌, ◌<◌, ◌++◌, max, length, set, slice_index_or, true, false, None, Err, IfOk, IsOk, OnOk, string_bytes};
+ghost use Rattle.pg_picture.specs.Appending.{Appends};
+ghost use Rattle.pg_picture.specs.Fits.{misfit_of};
+ghost use Rattle.pg_picture.specs.Picture.{picture};
+ghost use Rattle.pg_picture.specs.Straight.{IsStraight};
+ghost use Rattle.pg_picture.specs.Table.{Known, full_width, is_empty};
+ghost use Rattle.pg_table.specs.Even.{IsEven};
+ghost use Rattle.pg_table.specs.Filling.{at_sizes, filled, lacking, printed_filled_table};
+ghost use Rattle.pg_table.specs.Fitted.{printed_fitted_table, sizes_fitted};
+ghost use Rattle.pg_table.specs.Printing.{fault_of, is_spanned, CanFail, Prints};
+ghost use Rattle.pg_table.specs.declared.sizes.Axis.TheVariants.{Columns, Rows};
+
+use crate::fault::TableFault;
+use crate::fitted::FittedTable;
+use pg_layout::{Colors, ConstantDimension, ExactRecords, PeekableRecords, Records};
+use pg_peekable::PeekableGrid;
+use pg_picture::fits::full_width;
+use std::alloc::{AllocError, Allocator, Global};
+
+/// A fitted table of which one column takes what the lines lack of a width
+/// ([`FittedTable::filled`]).
+#[derive(Debug)]
+pub struct FilledTable<'a, R, C, B: Allocator = Global, A: Allocator = Global> {
+    fitted: FittedTable<'a, R, C, B, A>,
+    width: usize,
+    column: usize,
+}
+
+// Written out, so that a caller's proof has one call when it drops the table.
+impl<'a, R: Drop, C, B: Allocator, A: Allocator> Drop for FilledTable<'a, R, C, B, A> {
+    fn drop(self) {
+        let FilledTable {
+            fitted,
+            width: _,
+            column: _,
+        } = self;
+        drop(fitted);
+    }
+}
+
+impl<'a, R, C, B, A> FittedTable<'a, R, C, B, A>
+where
+    R: PeekableRecords + ExactRecords,
+    C: Colors,
+    B: Allocator,
+    A: Allocator,
+{
+    /// The table with lines of exactly so many terminal columns, including the side margins and the
+    /// column lines, if they are narrower: one column, counted from 0, is as much wider. A table
+    /// without this column, or without rows, stays as it is. Allocates nothing.
+    pub fn filled(self, width: usize, column: usize) -> FilledTable<'a, R, C, B, A>
+        ensures table { printed_filled_table R.texts R.columns C.color result ≡ filled width column (printed_fitted_table R.texts R.columns C.color self.entry) }
+        ensures exact { is_empty (printed_fitted_table R.texts R.columns C.color self.entry) ≡ false → column < R.columns self.entry.records.records
+            → full_width (printed_filled_table R.texts R.columns C.color result) ≡ max width (full_width (printed_fitted_table R.texts R.columns C.color self.entry)) }
+    {
+        FilledTable {
+            fitted: self,
+            width,
+            column,
+        }
+    }
+
+    // Whether the table has no cells.
+    fn is_empty(&self) -> bool
+        ensures { result ≡ is_empty (printed_fitted_table R.texts R.columns C.color self.now) }
+    {
+        self.natural().is_empty()
+    }
+
+    // The sizes of a table with cells that has no fault.
+    fn sized<D: Allocator + Copy>(&self, alloc: D) -> Result<ConstantDimension<D>, TableFault>
+        requires { is_empty (printed_fitted_table R.texts R.columns C.color self.now) ≡ false }
+        ensures widths { IfOk result (λ d. d.0.items ≡ sizes_fitted R.texts R.columns Columns self.now) }
+        ensures heights { IfOk result (λ d. d.1.items ≡ sizes_fitted R.texts R.columns Rows self.now) }
+        ensures ok { IsOk result → fault_of (printed_fitted_table R.texts R.columns C.color self.now) ≡ None }
+        ensures fault { (fault : TableFault) → result ≡ Err fault → CanFail (printed_fitted_table R.texts R.columns C.color self.now) fault }
+    {
+        self.natural().sized(alloc)
+    }
+}
+
+impl<'a, R, C, B, A> FilledTable<'a, R, C, B, A>
+where
+    R: PeekableRecords + ExactRecords,
+    C: Colors,
+    B: Allocator,
+    A: Allocator,
+{
+    /// Appends the picture of the table. Errors are those of [`FittedTable::print`]. A table with
+    /// no rows or no columns appends and allocates nothing.
+    pub fn print<D: Allocator + Copy, W: Allocator>(
+        &self,
+        alloc: D,
+        buf: &mut String<W>,
+    ) -> Result<(), TableFault>
+        ensures prints { Prints (is_spanned (printed_fitted_table R.texts R.columns C.color self.now.fitted))
+            (fault_of (printed_fitted_table R.texts R.columns C.color self.now.fitted)) buf.old buf.new result
+            (picture Known (printed_filled_table R.texts R.columns C.color self.now)) }
+        ensures printed { OnOk result (string_bytes buf.new ≡ string_bytes buf.old ++ picture Known (printed_filled_table R.texts R.columns C.color self.now)) }
+        ensures empty { is_empty (printed_filled_table R.texts R.columns C.color self.now) ≡ true → IsOk result × (buf.new ≡ buf.old) }
+        ensures straight { IsOk result → IsStraight (printed_filled_table R.texts R.columns C.color self.now) }
+        ensures even { IsOk result → IsEven (printed_filled_table R.texts R.columns C.color self.now) }
+    {
+        if self.fitted.is_empty() {
+            return Ok(());
+        }
+        let dimension = self.sizes(alloc)?;
+        self.push_sized(dimension, buf)?;
+        Ok(())
+    }
+
+    /// The picture of the table as a text of its own. Errors are those of [`FittedTable::print`]. A
+    /// table with no rows or no columns allocates nothing.
+    pub fn to_string<D: Allocator + Copy>(&self, alloc: D) -> Result<String<D>, TableFault>
+        ensures text { IfOk result (λ text. string_bytes text ≡ picture Known (printed_filled_table R.texts R.columns C.color self.now)) }
+        ensures even { IsOk result → IsEven (printed_filled_table R.texts R.columns C.color self.now) }
+        ensures ok { IsOk result → fault_of (printed_fitted_table R.texts R.columns C.color self.now.fitted) ≡ None }
+        ensures fault { (fault : TableFault) → result ≡ Err fault → CanFail (printed_fitted_table R.texts R.columns C.color self.now.fitted) fault }
+        ensures empty { is_empty (printed_filled_table R.texts R.columns C.color self.now) ≡ true → IsOk result }
+    {
+        let mut text = String::new(alloc);
+        self.print(alloc, &mut text)?;
+        Ok(text)
+    }
+
+    // The sizes of a table with cells that has no fault.
+    fn sizes<D: Allocator + Copy>(&self, alloc: D) -> Result<ConstantDimension<D>, TableFault>
+        requires { is_empty (printed_fitted_table R.texts R.columns C.color self.now.fitted) ≡ false }
+        ensures table { IfOk result (λ d. at_sizes d (printed_fitted_table R.texts R.columns C.color self.now.fitted) ≡ printed_filled_table R.texts R.columns C.color self.now) }
+        ensures ok { IsOk result → fault_of (printed_fitted_table R.texts R.columns C.color self.now.fitted) ≡ None }
+        ensures fault { (fault : TableFault) → result ≡ Err fault → CanFail (printed_fitted_table R.texts R.columns C.color self.now.fitted) fault }
+    {
+        let mut dimension = self.fitted.sized(alloc)?;
+        let more = self.lacking(&dimension);
+        widen(&mut dimension.0, self.column, more);
+        Ok(dimension)
+    }
+
+    // What a line of the fitted table, which has cells, lacks of the width.
+    fn lacking<D: Allocator>(&self, dimension: &ConstantDimension<D>) -> usize
+        requires some { is_empty (printed_fitted_table R.texts R.columns C.color self.now.fitted) ≡ false }
+        requires widths { dimension.now.0.items ≡ sizes_fitted R.texts R.columns Columns self.now.fitted }
+        requires fits { fault_of (printed_fitted_table R.texts R.columns C.color self.now.fitted) ≡ None }
+        ensures { result ≡ lacking self.now.width (printed_fitted_table R.texts R.columns C.color self.now.fitted) }
+    {
+        let fitted = &self.fitted;
+        match full_width(fitted.config, dimension, Records::count_columns(&&fitted.records)) {
+            Some(line) => self.width.saturating_sub(line),
+            None => 0,
+        }
+    }
+
+    // Appends the picture of the table, which fits, at its sizes.
+    fn push_sized<D: Allocator, W: Allocator>(
+        &self,
+        dimension: ConstantDimension<D>,
+        buf: &mut String<W>,
+    ) -> Result<(), AllocError>
+        requires sizes { at_sizes dimension (printed_fitted_table R.texts R.columns C.color self.now.fitted) ≡ printed_filled_table R.texts R.columns C.color self.now }
+        requires fits { misfit_of (printed_filled_table R.texts R.columns C.color self.now) ≡ None }
+        ensures { Appends buf.old buf.new result (picture Known (printed_filled_table R.texts R.columns C.color self.now)) }
+    {
+        let fitted = &self.fitted;
+        PeekableGrid::new(&fitted.records, fitted.config, dimension, fitted.colors).build(buf)
+    }
+}
+
+// Makes one of these columns so much wider, if it is there.
+#[tactic(auto, using(crate::proofs::Filled::nothing_more, crate::proofs::Filled::past_more))]
+fn widen<A: Allocator>(widths: &mut Vec<usize, A>, column: usize, more: usize)
+    requires { 0 < more → column < length widths.old.items → slice_index_or widths.old.items column 0 + more < 2 ^ 64 }
+    ensures { widths.new.items ≡ set widths.old.items column (slice_index_or widths.old.items column 0 + more) }
+{
+    if more == 0 || widths.len() <= column {
+        return;
+    }
+    widths[column] += more;
+}
