@@ -1,6 +1,6 @@
 -- The natural widths of tables whose texts have a space at each side.
 use Rattle.std.proofs.Common.{◌≡◌, ◌≤◌, ◌<◌, ◌∙◌, ◌∷◌, ◌+◌, ◌-◌, ◌^◌, ◌==◌, ◌||◌, ℕ, zero, suc, Bool, true, false, List, [], None, Some, Option, count_by, drop, length, map, max, slice_index, slice_index_or, take, nat_lt, refl, sym, ap, ap₂, subst, inl, inr, arith}
-use Rattle.std.specs.List.{list_all, range_with_len}
+use Rattle.std.specs.List.{range_with_len}
 use Rattle.std.proofs.lemmas.Bool.{and_parts, cases_Bool}
 use Rattle.std.proofs.lemmas.Bool.Decides.{nat_tests}
 use Rattle.std.proofs.lemmas.List.{get_or-map, length-map, length-take, length-drop}
@@ -28,7 +28,7 @@ use Rattle.pg_table.proofs.Faults.{cells-no_fault}
 use Rattle.pg_table.proofs.NaturalRoom.{map-below}
 use Rattle.pg_table.proofs.PlainCells.{cell-below, plain-naturals, plain-widths}
 use Rattle.pg_table.proofs.ShownCells.{cells-from, sized-from}
-use Rattle.ruled_table.specs.Columns.{drawn_at, ellipsis}
+use Rattle.ruled_table.specs.Columns.{drawn_at}
 use Rattle.ruled_table.specs.LentRows.{fields_at, texts_at}
 use Rattle.ruled_table.specs.Ranges.{are_counted, widest_text}
 use Rattle.ruled_table.specs.Shown.{line_in, sided_config}
