@@ -1,7 +1,6 @@
 -- Sets of lemmas that attributes of functions hand to the prover.
 use Rattle.ruled_table.proofs.LentTexts.{field_missing, field_there, columns-some, even-lent, body-length}
 use Rattle.ruled_table.proofs.WordsOfColumns.{number-lost}
-use Rattle.ruled_table.proofs.DigitsAlone.{digits-number}
 use Rattle.std.proofs.lemmas.List.Folds.{list_all-map}
 
 -- the field at a place, and none
@@ -15,9 +14,6 @@ pub ruleset lengths = (body-length)
 
 -- digits that are no number
 pub ruleset numbers_lost = (number-lost)
-
--- digits are a number
-pub ruleset digits = (digits-number)
 
 -- a test of all rows
 pub ruleset numbered_rows = (list_all-map)

@@ -1,6 +1,6 @@
 //! What a number is, and its parts.
 
-ghost use Rattle.std.specs.Prelude.{◌≡◌, ◌<◌, ◌<ℤ◌, ◌^◌, ◌==◌, ◌||◌, length, neg_ℤ, pos, position, IfOk, IfSome};
+ghost use Rattle.std.specs.Prelude.{◌≡◌, ◌<◌, ◌<ℤ◌, ◌^◌, ◌==◌, ◌||◌, not, true, length, neg_ℤ, pos, position, IfOk, IfSome};
 ghost use Rattle.std.specs.List.{list_all, suffix_len};
 ghost use Rattle.std.specs.Io.BufRead.{strip_last};
 ghost use Rattle.ruled_table.specs.Numbers as spec;
@@ -89,6 +89,29 @@ fn without_percent(text: &[u8]) -> &[u8]
     }
 }
 
+// The place of the first byte that isn't a digit.
+fn digits_end(text: &[u8]) -> Option<usize>
+    ensures place { result ≡ position (λ byte. not (spec.is_digit byte)) text.now }
+    ensures within { IfSome result (λ end. end < length text.now) }
+{
+    text.iter().position(|byte| !byte.is_ascii_digit())
+}
+
+// Digits, and perhaps a point between two of them. Most numbers are so, and are found by fewer walks.
+fn is_simple(text: &[u8]) -> bool
+    ensures { result ≡ true → spec.is_number text.now ≡ true }
+{
+    match digits_end(text) {
+        None => !text.is_empty(),
+        Some(end) => {
+            if end == 0 {
+                return false;
+            }
+            text[end] == b'.' && are_digits(&text[end + 1..])
+        }
+    }
+}
+
 // A decimal number, and perhaps a power of ten after it.
 fn is_scaled(text: &[u8]) -> bool
     ensures { result ≡ spec.is_scaled text.now }
@@ -101,12 +124,12 @@ fn is_scaled(text: &[u8]) -> bool
 
 /// Whether a text is a number: perhaps a sign; a whole number, whose digits may have commas between
 /// them, or digits with a point before or among them; perhaps a power of ten; and perhaps a percent
-/// sign. Many numbers are digits alone, for which one walk is enough.
-#[tactic(auto, unfolding(crate::specs::Numbers::is_number), using(crate::proofs::Rulesets::digits))]
+/// sign.
+#[tactic(auto, unfolding(crate::specs::Numbers::is_number))]
 pub(crate) fn is_number(text: &str) -> bool
     ensures { result ≡ spec.is_number text.now }
 {
-    are_digits(text.as_bytes()) || is_scaled(without_percent(unsigned(text.as_bytes())))
+    is_simple(text.as_bytes()) || is_scaled(without_percent(unsigned(text.as_bytes())))
 }
 
 /// The text `⋮`, in place of those of rows that are left out.
