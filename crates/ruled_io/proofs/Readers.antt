@@ -1,5 +1,5 @@
 -- A reading that goes on, and a reader of a format, by what the readers of the formats say.
-use Rattle.std.proofs.Common.{◌≡◌, ◌∙◌, ℕ, List, [], ◌++◌, Option, Some, None, refl, sym, ap, subst, append-nil, append_assoc, ◌≢◌, ◌∷◌, Result, Ok, Err, arith}
+use Rattle.std.proofs.Common.{◌≡◌, ◌∙◌, ℕ, Bool, true, false, List, [], ◌++◌, Option, Some, None, refl, sym, ap, subst, append-nil, append_assoc, ◌≢◌, ◌∷◌, Result, Ok, Err, arith}
 use Rattle.std.specs.Io.KnownBytes.{Consumes, IsAtEnd}
 use Rattle.pg_layout.specs.Text.{Text}
 use Rattle.ruled_io.specs.Reading.{Ends, Gives, GoesOn, HasTaken, Stands, ended_rows, sound_rows, wrong_in, AppendsRest}
@@ -10,10 +10,13 @@ use Rattle.ruled_io.specs.declared.reader.Reading.{Reading}
 use Rattle.ruled_csv.proofs.Readers as csv
 use Rattle.ruled_json.proofs.AtOnce as json
 use Rattle.ruled_io.specs.declared.reader.Reading.TheVariants.{More, Done}
-use Rattle.std.specs.Prelude.{IfOk, option_map}
+use Rattle.std.specs.Prelude.{IfOk, option_map, if◌then◌else◌}
+use Rattle.std.specs.List.{take_while}
 use Rattle.csv.specs.Machine.{next_record}
-use Rattle.csv.specs.Reading.{records_from, strip_bom}
-use Rattle.ruled_csv.specs.Kept.{kept_text}
+use Rattle.csv.specs.Reading.{records, records_from, strip_bom}
+use Rattle.ruled_csv.specs.Kept.{kept_text, lines_of}
+use Rattle.ruled_csv.specs.Quotes.{are_words, config_of}
+use Rattle.ruled_csv.specs.Words.{rows_of_lines, words_of}
 use Rattle.ruled_json.specs.Rows as json_rows
 use Rattle.ruled_csv.specs.Faults as csv_faults
 use Rattle.ruled_csv.specs.Reading as csv_reading
@@ -151,9 +154,17 @@ nil-front : {X : Type 0} (xs ys : List X) → xs ++ ys ≡ [] → xs ≡ []
 nil-front [] ys none = refl
 nil-front (x ∷ xs) ys none = cc
 
+either-none : (b : Bool) (one other : List (List Text)) → one ≡ [] → other ≡ [] → (if b then one else other) ≡ []
+either-none true one other first second = first
+either-none false one other first second = second
+
+no-row : (dialect : Dialect) → csv_rows.rows_in dialect [] ≡ []
+unfolding records_from next_record words_of
+no-row dialect = either-none (are_words dialect.rows.fields) (rows_of_lines (lines_of [])) (records (config_of dialect) []) refl refl
+
 no-rows : (dialect : Dialect) → csv_faults.sound_rows dialect [] ≡ []
-unfolding csv_faults.sound_rows kept_text records_from next_record
-no-rows dialect = refl
+unfolding csv_faults.sound_rows kept_text
+no-rows dialect = ap (λ (rows : List (List Text)). take_while (csv_faults.is_sound dialect (csv_rows.columns_of rows)) rows) (no-row dialect)
 
 no-lines : (records : ℕ) → json_streamed.sound_line_rows records [] ≡ []
 unfolding strip_bom json_rows.line_rows_of json_faults.line_rows_fault
