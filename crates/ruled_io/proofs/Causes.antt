@@ -290,7 +290,7 @@ draws-early text wrong old new (Read fault) draws early = absurd draws
 draws-early text wrong old new Closed draws early = absurd (false≢true early)
 draws-early text wrong old new Write draws early = absurd (false≢true early)
 
-pub early-handed : (text : Text) (wrong : Option ViewFault) (old new : Option (List ℕ)) (found : RunFault) (result : Result (Unit {0}) RunFault) → Draws text wrong old new {X = Unit {0}} (Err found) → IsErrAnd result (λ fault. fault ≡ found)
+pub early-handed : {Y : Type 0} (text : Text) (wrong : Option ViewFault) (old new : Option (List ℕ)) (found : RunFault) (result : Result Y RunFault) → Draws text wrong old new {X = Unit {0}} (Err found) → IsErrAnd result (λ fault. fault ≡ found)
     → IfErr result (λ fault. is_early fault ≡ true → Keeps old new)
 early-handed text wrong old new found (Ok x) draws is = absurd is
 early-handed text wrong old new found (Err fault) draws is = λ early. draws-early text wrong old new found draws (ap is_early (sym is) ∙ early)
