@@ -70,4 +70,4 @@ pub returns-clause-padded : goal.returns-clause-padded
 returns-clause-padded g c =
     let request = c.args.request.now in
     let rows : List (List (List ℕ)) = map fields_of c.in_ok-rows.rows.items in
-    padded-by (g.R.Read.remaining c.args.pieces.now.input) request rows c.padded_rows-padded.result c.flush_padded.result c.in_ok-rows.ensures.rows c.padded_rows-padded.ensures c.flush_padded.ensures.padded
+    padded-by (g.R.Read.remaining c.args.pieces.now.input) request rows c.padded_rows-padded.result c.flush_padded.result c.in_ok-rows.ensures.rows (rw c.deref.ensures.value at c.padded_rows-padded.ensures) c.flush_padded.ensures.padded
