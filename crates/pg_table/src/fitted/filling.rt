@@ -79,6 +79,35 @@ where
     {
         self.natural().sized(alloc)
     }
+
+    // What a line of a table with cells and these widths lacks of a width.
+    fn lacking<D: Allocator>(&self, dimension: &ConstantDimension<D>, width: usize) -> usize
+        requires some { is_empty (printed_fitted_table R.texts R.columns C.color self.now) ≡ false }
+        requires widths { dimension.now.0.items ≡ sizes_fitted R.texts R.columns Columns self.now }
+        requires fits { fault_of (printed_fitted_table R.texts R.columns C.color self.now) ≡ None }
+        ensures { result ≡ lacking width (printed_fitted_table R.texts R.columns C.color self.now) }
+    {
+        match full_width(
+            self.config,
+            dimension,
+            Records::count_columns(&&self.records),
+        ) {
+            Some(line) => width.saturating_sub(line),
+            None => 0,
+        }
+    }
+
+    // Appends the picture of the table at these sizes, at which it fits.
+    fn push_at<D: Allocator, W: Allocator>(
+        &self,
+        dimension: &ConstantDimension<D>,
+        buf: &mut String<W>,
+    ) -> Result<(), AllocError>
+        requires { misfit_of (at_sizes dimension.now (printed_fitted_table R.texts R.columns C.color self.now)) ≡ None }
+        ensures { Appends buf.old buf.new result (picture Known (at_sizes dimension.now (printed_fitted_table R.texts R.columns C.color self.now))) }
+    {
+        PeekableGrid::new(&self.records, self.config, dimension, self.colors).build(buf)
+    }
 }
 
 impl<'a, R, C, B, A> FilledTable<'a, R, C, B, A>
@@ -107,7 +136,7 @@ where
             return Ok(());
         }
         let dimension = self.sizes(alloc)?;
-        self.push_sized(dimension, buf)?;
+        self.push_sized(&dimension, buf)?;
         Ok(())
     }
 
@@ -129,41 +158,28 @@ where
     fn sizes<D: Allocator + Copy>(&self, alloc: D) -> Result<ConstantDimension<D>, TableFault>
         requires { is_empty (printed_fitted_table R.texts R.columns C.color self.now.fitted) ≡ false }
         ensures table { IfOk result (λ d. at_sizes d (printed_fitted_table R.texts R.columns C.color self.now.fitted) ≡ printed_filled_table R.texts R.columns C.color self.now) }
+        ensures fits { IsOk result → misfit_of (printed_filled_table R.texts R.columns C.color self.now) ≡ None }
         ensures ok { IsOk result → fault_of (printed_fitted_table R.texts R.columns C.color self.now.fitted) ≡ None }
         ensures fault { (fault : TableFault) → result ≡ Err fault → CanFail (printed_fitted_table R.texts R.columns C.color self.now.fitted) fault }
     {
         let mut dimension = self.fitted.sized(alloc)?;
-        let more = self.lacking(&dimension);
+        let width = self.width;
+        let more = self.fitted.lacking(&dimension, width);
         widen(&mut dimension.0, self.column, more);
         Ok(dimension)
-    }
-
-    // What a line of the fitted table, which has cells, lacks of the width.
-    fn lacking<D: Allocator>(&self, dimension: &ConstantDimension<D>) -> usize
-        requires some { is_empty (printed_fitted_table R.texts R.columns C.color self.now.fitted) ≡ false }
-        requires widths { dimension.now.0.items ≡ sizes_fitted R.texts R.columns Columns self.now.fitted }
-        requires fits { fault_of (printed_fitted_table R.texts R.columns C.color self.now.fitted) ≡ None }
-        ensures { result ≡ lacking self.now.width (printed_fitted_table R.texts R.columns C.color self.now.fitted) }
-    {
-        let fitted = &self.fitted;
-        match full_width(fitted.config, dimension, Records::count_columns(&&fitted.records)) {
-            Some(line) => self.width.saturating_sub(line),
-            None => 0,
-        }
     }
 
     // Appends the picture of the table, which fits, at its sizes.
     fn push_sized<D: Allocator, W: Allocator>(
         &self,
-        dimension: ConstantDimension<D>,
+        dimension: &ConstantDimension<D>,
         buf: &mut String<W>,
     ) -> Result<(), AllocError>
-        requires sizes { at_sizes dimension (printed_fitted_table R.texts R.columns C.color self.now.fitted) ≡ printed_filled_table R.texts R.columns C.color self.now }
+        requires sizes { at_sizes dimension.now (printed_fitted_table R.texts R.columns C.color self.now.fitted) ≡ printed_filled_table R.texts R.columns C.color self.now }
         requires fits { misfit_of (printed_filled_table R.texts R.columns C.color self.now) ≡ None }
         ensures { Appends buf.old buf.new result (picture Known (printed_filled_table R.texts R.columns C.color self.now)) }
     {
-        let fitted = &self.fitted;
-        PeekableGrid::new(&fitted.records, fitted.config, dimension, fitted.colors).build(buf)
+        self.fitted.push_at(dimension, buf)
     }
 }
 
