@@ -163,7 +163,7 @@ fn separated(source: Source) -> Result<Source, &'static str> {
     match source {
         Source::Seen { rules, .. } => Ok(Source::Values { rules }),
         Source::Values { .. } | Source::Rows(Format::Separated(_)) => Ok(source),
-        Source::Rows(_) | Source::Database { .. } => {
+        Source::Rows(_) | Source::Member(_) | Source::Database { .. } => {
             Err("--skip, --comment, --quote and --names need separated values")
         }
     }
