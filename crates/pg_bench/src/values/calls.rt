@@ -165,7 +165,10 @@ fn changed<A: Allocator + Copy>(
 }
 
 // The text of what the calls make.
-fn text_of<A: Allocator + Copy>(alloc: A, case: &Case) -> Result<String<A>, TableFault> {
+fn text_of<'m>(
+    alloc: &'m Refusing<Global>,
+    case: &Case,
+) -> Result<String<&'m Refusing<Global>>, TableFault> {
     let table = changed(table_of(alloc, case.rows)?, case.call)?;
     match case.export {
         Export::Picture => table.to_string(alloc),
@@ -206,7 +209,8 @@ impl Refused<'_> {
 // What the calls make, and that they report each request for memory that is refused.
 fn check_case(alloc: Global, case: &Case, report: &mut Report) {
     let mut fact = Fact::new(report, case.name);
-    let text = text_of(alloc, case).ok();
+    let memory = Refusing::from_on(alloc, u64::MAX);
+    let text = text_of(&memory, case).ok();
     fact.same(text.as_deref(), Some(case.text));
     fact.holds(Refused { case, alloc }.failures().is_ok());
 }
