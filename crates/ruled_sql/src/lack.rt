@@ -27,13 +27,16 @@ enum Mode {
 pub(crate) type Lack = (&'static str, &'static str);
 
 /// Words that `sqlite` doesn't know.
-const WORDS: [Lack; 7] = [
+const WORDS: [Lack; 10] = [
     ("over", "window functions"),
+    ("blob", "casts to BLOB"),
     ("current_date", "dates"),
     ("current_time", "dates"),
     ("current_timestamp", "dates"),
     ("explain", "plans"),
+    ("indexed", "hints of indexes"),
     ("materialized", "try with .. as (..)"),
+    ("numeric", "casts to NUMERIC; try real"),
     ("pragma", "ruled lists columns without --query"),
 ];
 
@@ -138,7 +141,8 @@ const CALLS: [Lack; 96] = [
 ];
 
 /// Words whose calls `sqlite` knows with one argument only.
-const LONG_CALLS: [Lack; 5] = [
+const LONG_CALLS: [Lack; 6] = [
+    ("count", "of several columns; try count(distinct a || b)"),
     ("group_concat", "with a separator"),
     ("round", "with digits; try round(100 * x) / 100"),
     ("ltrim", "with characters to remove"),
