@@ -142,7 +142,7 @@ const CALLS: [Lack; 96] = [
 
 /// Words whose calls `sqlite` knows with one argument only.
 const LONG_CALLS: [Lack; 6] = [
-    ("count", "of several columns; try count(distinct a || b)"),
+    ("count", "of several columns"),
     ("group_concat", "with a separator"),
     ("round", "with digits; try round(100 * x) / 100"),
     ("ltrim", "with characters to remove"),
