@@ -139,8 +139,8 @@ fn ending_of<W: Write>(answer: Result<usize, RunFault>, request: &Request, err: 
 /// whose lines can't be counted.
 ///
 /// Each fault is one line on `err`, except that nothing is reported where nobody reads what is written. If rows were
-/// padded, one line says how many. A failed write to `err` changes no result. `Closed` and `Write` are returned if a write to `out` has failed so, and only then;
-/// `Read` only if a read of `input` has failed.
+/// padded, one line says how many. A failed write to `err` changes no result. `Closed` and `Write` are returned if a
+/// write to `out` has failed so, and only then; `Read` only if a read of `input` has failed.
 pub fn run<R: Read + Drop, W1: Write + Drop, W2: Write>(
     alloc: Global,
     request: &Request,
