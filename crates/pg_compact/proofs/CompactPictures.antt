@@ -14,7 +14,7 @@ use Rattle.pg_picture.specs.Sizes.{if_fits}
 use Rattle.pg_picture.specs.declared.fits.Misfit.{Misfit}
 use Rattle.pg_compact.specs.declared.printer.CompactPrinter.{CompactPrinter}
 use Rattle.pg_compact.specs.CompactGrids.{CompactFits, compact_misfit, has_no_cells}
-use Rattle.pg_compact.specs.Inside.PrintedTable.{printed_table}
+use Rattle.pg_compact.specs.Inside.{printed_table}
 use Rattle.pg_picture.proofs.Ranges.{some_answer}
 use Rattle.pg_picture.specs.Shown.{compact_unshown_of}
 use Rattle.pg_picture.proofs.FirstPlaces.{compact_misfit-sized}

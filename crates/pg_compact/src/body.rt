@@ -8,10 +8,10 @@ ghost use Rattle.pg_layout.specs.Records.{Gives};
 ghost use Rattle.pg_picture.specs.Appending.{Appends};
 ghost use Rattle.pg_picture.specs.CompactLines.{compact_full_width, line_if, separator_row, padding_row, text_row, row_lines};
 ghost use Rattle.pg_picture.specs.Joined.{continued, fed};
-ghost use Rattle.pg_picture.specs.Inside.Following.{feed_before, lines_before};
+ghost use Rattle.pg_picture.specs.Inside.{feed_before, lines_before};
 ghost use Rattle.pg_picture.specs.Picture.{compact_picture};
 ghost use Rattle.pg_compact.specs.CompactGrids.{has_no_cells, CompactFits};
-ghost use Rattle.pg_compact.specs.Inside.PrintedTable.{printed_table, IsRow, AreRows, IsInnerSeparator, lines_between, line_colors, lines_of_row, head_lines, foot_lines};
+ghost use Rattle.pg_compact.specs.Inside.{printed_table, IsRow, AreRows, IsInnerSeparator, lines_between, line_colors, lines_of_row, head_lines, foot_lines};
 
 use crate::printer::CompactPrinter;
 use crate::separators::{bottom_line, top_line};

@@ -4,8 +4,8 @@ ghost use Rattle.std.specs.Prelude.{◌≡◌, ◌==◌, if◌then◌else◌, []
 ghost use Rattle.std.specs.List.{range_with_len};
 ghost use Rattle.pg_picture.specs.Appending.{Appends};
 ghost use Rattle.pg_picture.specs.CompactLines.{parts, parts_after, top_line, bottom_line, inner_line, separator_row};
-ghost use Rattle.pg_picture.specs.Inside.Following.{open_parts, open_color};
-ghost use Rattle.pg_compact.specs.Inside.PrintedTable.{printed_table, IsInnerSeparator, inner_separator, line_colors, column_parts};
+ghost use Rattle.pg_picture.specs.Inside.{open_parts, open_color};
+ghost use Rattle.pg_compact.specs.Inside.{printed_table, IsInnerSeparator, inner_separator, line_colors, column_parts};
 
 use crate::printer::CompactPrinter;
 use pg_layout::{ANSIStr, Borders, Colors, Dimension, HorizontalLine};

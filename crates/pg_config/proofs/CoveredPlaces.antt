@@ -13,10 +13,9 @@ use Rattle.pg_layout.specs.Places.{before, last_before, between, Each, IsAscendi
 use Rattle.pg_layout.specs.Position.{at}
 use Rattle.pg_layout.proofs.KeyedPlaces.{columns-laws, last-is, none-before}
 use Rattle.pg_config.specs.Spans.{Span, in_span, if_left, left_span, span_size}
-use Rattle.pg_config.specs.Inside.Covered.{begins_within, is_covered_from, is_covered_from_left}
+use Rattle.pg_config.specs.Inside.{begins_within, is_covered_from, is_covered_from_left, with_rows, in_extent, last_row_of, HasSpan, HasCell}
 use Rattle.pg_config.specs.declared.extent.Extent.{Extent}
 use Rattle.pg_config.specs.declared.spans.SpanSize.{SpanSize}
-use Rattle.pg_config.specs.Inside.Extents.{with_rows, in_extent, last_row_of, HasSpan, HasCell}
 
 -- ---- numbers that follow each other: what one more of them adds to a sum or a count
 

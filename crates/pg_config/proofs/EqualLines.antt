@@ -10,7 +10,7 @@ use Rattle.pg_config.specs.Settings.{has_some, Settings, is_for_all, is_by_colum
 use Rattle.pg_config.specs.Overrides.{Overrides, sets_rows, horizontal_override, crossing_override, overrides_row, overrides_column, with_row, line_crossing, has_glyph, with_row_line, on_lines, with_round, sets_columns, vertical_override}
 use Rattle.pg_config.specs.Offsets.{Offsets, has_offsets, lookup_offset}
 use Rattle.pg_config.specs.Config.{Config, has_equal_row_lines, has_horizontal, get_horizontal, get_intersection, get_horizontal_color, get_intersection_color, has_vertical, get_vertical, get_vertical_color, has_column_lines, get_padding, get_padding_color, get_alignment_horizontal, get_alignment_vertical, get_formatting, get_justification, get_justification_color}
-use Rattle.pg_config.specs.Inside.Lines.{SameForRows, SameForColumns}
+use Rattle.pg_config.specs.Inside.{SameForRows, SameForColumns}
 use Rattle.std.specs.Int.{from_bool}
 use Rattle.std.specs.List.{find, range_with_len}
 use Rattle.std.proofs.lemmas.List.{drop_more}

@@ -15,7 +15,7 @@ use Rattle.pg_layout.specs.declared.position.ColumnPlace.{ColumnPlace}
 use Rattle.pg_layout.specs.declared.position.Position.{Position}
 use Rattle.pg_layout.specs.Position.{at}
 use Rattle.pg_config.specs.Overrides.{HasColumns}
-use Rattle.pg_config.specs.Inside.NotedPlaces.{taken_back, CanTakeBack}
+use Rattle.pg_config.specs.Inside.{taken_back, CanTakeBack}
 
 -- ---- what an edit of values by key does to a lookup and to a test of keys
 

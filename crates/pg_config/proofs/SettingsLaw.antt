@@ -5,7 +5,7 @@ use Rattle.std.proofs.lemmas.Bool.Decides.{nat_tests}
 use Rattle.pg_layout.specs.declared.position.Position.{Position}
 use Rattle.pg_layout.specs.Keys.{Order, by_number, by_place}
 use Rattle.pg_layout.specs.Places.{value_at, same, before, with_place}
-use Rattle.pg_config.specs.Inside.NamedSettings.{first_of, with_base}
+use Rattle.pg_config.specs.Inside.{first_of, with_base}
 use Rattle.pg_config.specs.Settings.{Settings, no_settings, has_some, is_for_all, is_by_column, is_set, setting_of, number_above, next_number, latest, with_setting}
 use Rattle.pg_layout.proofs.KeyedPlaces.{number-laws, place-laws, value_at-with_place}
 use Rattle.pg_layout.specs.declared.position.Entity.{Entity}

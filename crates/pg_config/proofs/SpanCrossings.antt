@@ -15,7 +15,7 @@ use Rattle.pg_config.specs.declared.crossings.Side.{Side}
 use Rattle.pg_config.specs.declared.crossings.Side.TheVariants.{Top, Bottom, Left, Right}
 use Rattle.pg_config.specs.Config.{Config}
 use Rattle.pg_config.specs.Crossings.{lies_inside, is_on_side, is_on, edge_glyph, span_crossing, with_rows, with_crossings}
-use Rattle.pg_config.specs.Inside.CrossingMarks.{Marks, no_sides, has_side, with_side, sides_at, with_mark, on_line, with_line, count_inside, line_behind, with_span, with_spans, with_glyphs, with_all}
+use Rattle.pg_config.specs.Inside.{Marks, no_sides, has_side, with_side, sides_at, with_mark, on_line, with_line, count_inside, line_behind, with_span, with_spans, with_glyphs, with_all}
 use Rattle.pg_config.specs.Overrides.{Overrides, with_row}
 use Rattle.pg_config.specs.Spans.{Span}
 use Rattle.pg_config.proofs.Lookups.{value_at-with_some}

@@ -2,7 +2,7 @@
 
 ghost use Rattle.std.specs.Prelude.{◌≡◌, ◌+◌, ◌<◌, ◌≤◌, [], Some, None, OnOk, IfOk, IsOk};
 ghost use Rattle.pg_config.specs.Crossings.{arms, meeting, edge_glyph};
-ghost use Rattle.pg_config.specs.Inside.CrossingMarks.{has_side, with_mark, on_line, with_line, count_inside, line_behind, with_span, with_spans, with_glyphs, sides_at};
+ghost use Rattle.pg_config.specs.Inside.{has_side, with_mark, on_line, with_line, count_inside, line_behind, with_span, with_spans, with_glyphs, sides_at};
 
 use crate::spanned::{SpannedConfig, horizontal_glyph, vertical_glyph};
 use crate::spans::{Span, Spans};

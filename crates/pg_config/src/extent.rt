@@ -1,7 +1,7 @@
 //! Rows and columns outside of which nothing lies.
 
 ghost use Rattle.std.specs.Prelude.{◌≡◌};
-ghost use Rattle.pg_config.specs.Inside.Extents.{no_extent, with_rows, in_extent};
+ghost use Rattle.pg_config.specs.Inside.{no_extent, with_rows, in_extent};
 
 use pg_layout::Position;
 

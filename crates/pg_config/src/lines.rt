@@ -4,8 +4,7 @@ ghost use Rattle.std.specs.Prelude.{◌≡◌, ◌+◌, ◌^◌, ◌<◌, [], Bo
 ghost use Rattle.pg_layout.specs.Borders.{no_border};
 ghost use Rattle.pg_layout.specs.Keys.{by_place};
 ghost use Rattle.pg_layout.specs.Places.{with_some};
-ghost use Rattle.pg_config.specs.Inside.CrossingMarks.{with_all};
-ghost use Rattle.pg_config.specs.Inside.NotedPlaces.{settled, settled_at};
+ghost use Rattle.pg_config.specs.Inside.{with_all, settled, settled_at};
 ghost use Rattle.pg_config.specs.LineGlyphs.{with_glyphs, with_line_crossings};
 ghost use Rattle.pg_config.specs.Overrides.{HasColumns, no_lines, behind, on_lines, with_round, with_border, with_row, line_crossing, with_row_line};
 
@@ -28,7 +27,7 @@ pub struct Lines<G, A: Allocator = Global> {
 }
 
 impl<G, A: Allocator> Model for Lines<G, A> {
-    ghost use Rattle.pg_config.specs.Inside.NotedPlaces.{Noted};
+    ghost use Rattle.pg_config.specs.Inside.{Noted};
     ghost use Rattle.pg_config.specs.Overrides.{Lines as Parts};
 
     ghost Value = { Noted (Parts G) };

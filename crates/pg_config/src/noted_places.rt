@@ -2,7 +2,7 @@
 
 ghost use Rattle.std.specs.Prelude.{◌≡◌, [], None, OnOk, OnErr, IsOk};
 ghost use Rattle.pg_layout.specs.Places.{with_some};
-ghost use Rattle.pg_config.specs.Inside.NotedPlaces.{settled, settled_at};
+ghost use Rattle.pg_config.specs.Inside.{settled, settled_at};
 
 use pg_layout::{Key, Places};
 use std::alloc::{AllocError, Allocator, Global};
@@ -25,7 +25,7 @@ pub struct NotedPlaces<K: Key, V, A: Allocator = Global> {
 
 impl<K: Key, V, A: Allocator> Model for NotedPlaces<K, V, A> {
     ghost use Rattle.std.specs.Prelude.{List};
-    ghost use Rattle.pg_config.specs.Inside.NotedPlaces.{Noted, taken_back, CanTakeBack};
+    ghost use Rattle.pg_config.specs.Inside.{Noted, taken_back, CanTakeBack};
 
     ghost Value = { Noted (List (K × V)) };
 

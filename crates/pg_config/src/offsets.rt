@@ -4,7 +4,7 @@ ghost use Rattle.std.specs.Prelude.{◌≡◌, ◌<◌, [], option_map, OnOk, On
 ghost use Rattle.pg_layout.specs.Places.{has_key};
 ghost use Rattle.pg_config.specs.Offsets.{glyph_at, by_glyph, of_place, no_offsets, offset_at, with_offset, lookup_offset, is_offset_at, has_offsets};
 ghost use Rattle.pg_config.specs.GlyphOrder.{glyph-order};
-ghost use Rattle.pg_config.specs.Inside.NotedPlaces.{settled_at};
+ghost use Rattle.pg_config.specs.Inside.{settled_at};
 
 use crate::noted_places::NotedPlaces;
 use pg_layout::{Key, Offset, Places, Position};

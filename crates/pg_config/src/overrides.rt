@@ -4,7 +4,7 @@ ghost use Rattle.std.specs.Prelude.{◌≡◌, false, [], option_map, OnOk, OnEr
 ghost use Rattle.pg_layout.specs.Borders.{no_border};
 ghost use Rattle.pg_layout.specs.Keys.{by_place, in_row, in_column};
 ghost use Rattle.pg_layout.specs.Places.{IsAscending, has_key};
-ghost use Rattle.pg_config.specs.Inside.CrossingMarks.{with_all};
+ghost use Rattle.pg_config.specs.Inside.{with_all};
 ghost use Rattle.pg_config.specs.LineGlyphs.{with_glyphs, with_line_crossings};
 ghost use Rattle.pg_config.specs.Overrides.{no_overrides, on_lines, with_border, has_glyph, with_row_line, horizontal_override};
 ghost use Rattle.pg_config.specs.Settings.{has_some};

@@ -3,7 +3,7 @@
 ghost use Rattle.std.specs.Prelude.{◌≡◌, ◌≢◌, ◌||◌, [], ℕ, suc, ◌<◌, ◌-◌, ◌^◌, Option, Some, None, option_map, OnOk, OnErr, IfOk, IsOk, IsSome};
 ghost use Rattle.pg_layout.specs.Keys.{by_place};
 ghost use Rattle.pg_layout.specs.Places.{value_at, with_place};
-ghost use Rattle.pg_config.specs.Inside.NamedSettings.{first_of, with_base};
+ghost use Rattle.pg_config.specs.Inside.{first_of, with_base};
 ghost use Rattle.pg_config.specs.Settings.{no_settings, has_some, latest, value_or, setting_of, with_setting, HasRoom, is_set, is_for_all, is_by_column};
 
 use crate::extent::Extent;
@@ -24,7 +24,7 @@ pub struct Settings<V, A: Allocator = Global> {
 }
 
 impl<V, A: Allocator> Model for Settings<V, A> {
-    ghost use Rattle.pg_config.specs.Inside.NamedSettings.{first_of, with_base};
+    ghost use Rattle.pg_config.specs.Inside.{first_of, with_base};
     ghost use Rattle.pg_config.specs.Settings.{Settings as Parts};
 
     ghost Value = { Parts V };
@@ -157,7 +157,7 @@ impl<V, A: Allocator> Model for NamedSettings<V, A> {
     ghost use Rattle.std.specs.Prelude.{◌≡◌, None};
     ghost use Rattle.pg_layout.specs.Places.{Each};
     ghost use Rattle.pg_config.specs.Settings.{Settings as Parts, next_number};
-    ghost use Rattle.pg_config.specs.Inside.Extents.{HasCell};
+    ghost use Rattle.pg_config.specs.Inside.{HasCell};
 
     ghost Value = { Parts V };
 

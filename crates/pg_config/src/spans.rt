@@ -9,7 +9,7 @@ ghost use Rattle.pg_layout.specs.Places.{IsAscending, value_at, before, between,
 ghost use Rattle.pg_config.specs.declared.spans.SpanSize.{SpanSize};
 ghost use Rattle.pg_config.specs.Spans.{Span, span_size, size_of, with_size, with_column_span, with_row_span, has_column_spans, has_row_spans};
 ghost use Rattle.pg_config.specs.Spans.{in_span, if_left, left_span, is_covered_by_column, is_covered_by_row, is_covered_by_both};
-ghost use Rattle.pg_config.specs.Inside.Covered.{is_covered_from, is_covered_from_left};
+ghost use Rattle.pg_config.specs.Inside.{is_covered_from, is_covered_from_left};
 
 use crate::extent::Extent;
 use pg_layout::{ColumnPlace, Places, Position};
@@ -43,7 +43,7 @@ impl<A: Allocator> Model for Spans<A> {
     ghost use Rattle.std.specs.Prelude.{List};
     ghost use Rattle.pg_layout.specs.Places.{Each};
     ghost use Rattle.pg_config.specs.Spans.{Span};
-    ghost use Rattle.pg_config.specs.Inside.Extents.{HasSpan};
+    ghost use Rattle.pg_config.specs.Inside.{HasSpan};
 
     ghost Value = { List Span };
 

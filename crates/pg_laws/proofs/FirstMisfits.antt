@@ -10,7 +10,7 @@ use Rattle.pg_picture.specs.declared.fits.Misfit.{Misfit}
 use Rattle.pg_picture.specs.declared.fits.Misfit.TheVariants.{Spans, Totals, Room}
 use Rattle.pg_picture.specs.Table.{Table, rect_marks, rect_height, rect_width, total_width, full_width}
 use Rattle.pg_picture.specs.Fits.{spans_fit, body_height, totals_fit, owner_fits, places, misfit_of}
-use Rattle.pg_picture.specs.Inside.Walks.{first_failed}
+use Rattle.pg_picture.specs.Inside.{first_failed}
 use Rattle.pg_picture.proofs.FirstPlaces.{failed_here, failed_later, failed_after, failed_before, passed_in_row, room_of, fits}
 use Rattle.pg_laws.specs.Laws.{Tells, MisfitsAreFirst, ColorsDontMatter}
 

@@ -20,7 +20,7 @@ use Rattle.pg_config.specs.Settings.{setting_of}
 use Rattle.pg_config.specs.Spans.{owner, rect_rows, is_left}
 use Rattle.pg_picture.specs.Marks.{Mark, sep, line, only_if, body, marks_within, stands_within, place_of}
 use Rattle.pg_picture.specs.Pieces.{Piece, words, repeated, written, fill, Style, style_at, shown, inner_width, left_share, line_with, text_line, text_height, text_top, block_line, Item, glyph, spaces, block, color_after, item_text, cut, separator_text}
-use Rattle.pg_picture.specs.Inside.Following.{items_after, last_color}
+use Rattle.pg_picture.specs.Inside.{items_after, last_color}
 use Rattle.pg_picture.specs.Table.{Table, Hint, rect_marks, rect_height, rect_width, block_at, is_inside, vertical_at, row_part, line_of_row, is_covered, crossing_item, crossing_at, crossing, border_items, column_items, separator_part, separator_items, total_width, full_width, margin_line, margin_lines, is_blank_at, side_margin, mark_text, body_line, table_body}
 use Rattle.pg_picture.specs.Picture.{top_lines, bottom_lines, body_lines, picture_lines}
 use Rattle.pg_picture.specs.Straight.{left_margin, right_margin}

@@ -19,7 +19,7 @@ use Rattle.pg_config.specs.Offsets.{Offsets, offset_at, with_offset, lookup_offs
 use Rattle.pg_config.specs.Spans.{Span, span_size, rect_rows, rect_columns, with_column_span, with_row_span, unless_one, get_column_span, get_row_span, in_span, owner, is_visible}
 use Rattle.pg_config.specs.Config.{Config, missing_if, has_horizontal, has_vertical, get_horizontal, get_vertical, get_intersection, get_horizontal_color, get_vertical_color}
 use Rattle.pg_config.specs.Config.{get_intersection_color, has_padding_color, has_justification, has_offset_chars, default_config}
-use Rattle.pg_config.specs.Inside.Lines.{SameForRows, SameForColumns}
+use Rattle.pg_config.specs.Inside.{SameForRows, SameForColumns}
 use Rattle.pg_laws.specs.Setters.{Setter, set_padding_color, set_justification, set_justification_color, set_borders_color, set_border_color, set_horizontal_char}
 use Rattle.pg_laws.specs.Setters.{set_horizontal_color, set_vertical_char, set_vertical_color, after}
 

@@ -14,15 +14,13 @@ use Rattle.pg_picture.proofs.FirstPlaces.{fits, cell_fits_plain}
 use Rattle.pg_picture.proofs.FittingTables.{totals_facts, RectInside, rect_width-sized, rect_height_fits, width_answer, height_answer}
 use Rattle.pg_picture.proofs.OwnersOfPlaces.{InOrder, left_sound, size_of_corner}
 use Rattle.pg_picture.proofs.Ranges.{some_answer, sum_by-from_more}
-use Rattle.pg_peekable.specs.Inside.LookedUpTable.{CanDraw, HasNoSpans}
+use Rattle.pg_peekable.specs.Inside.{CanDraw, HasNoSpans, IsRectangle, IsOwnerOf, OwnsRow}
 use Rattle.pg_config.specs.declared.spans.SpanSize.{SpanSize}
 use Rattle.pg_config.specs.Spans.{Span, corner, left_span, rect_rows, rect_columns}
 use Rattle.pg_picture.specs.Marks.{Mark, sep, line, place_of}
 use Rattle.pg_picture.specs.Rectangles.{IsOwner}
-use Rattle.pg_picture.specs.Inside.Rectangles.{rows_height}
+use Rattle.pg_picture.specs.Inside.{rows_height}
 use Rattle.pg_picture.proofs.DrawnRectangles.{rect_of, rows_height-fits, line_place, line_inside, sep_place, sep_inside, corner_owns, corner_from, corner_to, corner_inside}
-use Rattle.pg_peekable.specs.Inside.Kept.{IsRectangle}
-use Rattle.pg_peekable.specs.Inside.Walks.{IsOwnerOf, OwnsRow}
 use Rattle.pg_peekable.specs.declared.rectangle.Rectangle.{Rectangle}
 
 -- ---- a table in which everything fits can be drawn; its width and its height are numbers

@@ -9,7 +9,7 @@ use Rattle.pg_picture.specs.Pieces.{Piece, written, style_at, block_line, Item, 
 use Rattle.pg_picture.specs.Table.{Table, vertical, vertical_at, block_at, row_part, crossing_at, border_items, separator_part}
 use Rattle.pg_picture.specs.Fits.{cell_fits}
 use Rattle.pg_picture.specs.Fitting.{TableFits}
-use Rattle.pg_picture.specs.Inside.Rectangles.{columns_or_one}
+use Rattle.pg_picture.specs.Inside.{columns_or_one, items_after, last_color, HasRoomFor, facts_of, place_of, text_line_at, line_if, placed_line}
 use Rattle.pg_picture.proofs.PiecesOfLines.{written-append}
 use Rattle.pg_picture.proofs.Ranges.{range-more, range-cut}
 use Rattle.pg_picture.specs.Plain.{cell_line}
@@ -20,16 +20,12 @@ use Rattle.pg_picture.proofs.WalksOfRows.{walk_step, row_part_end, row_part_left
 use Rattle.pg_picture.proofs.DrawnRectangles.{single_line, single_room}
 use Rattle.pg_layout.specs.Colors.{Color}
 use Rattle.pg_config.specs.Config.{get_horizontal}
-use Rattle.pg_picture.specs.Inside.Following.{items_after, last_color}
 use Rattle.pg_picture.proofs.Separators.{items_after-append, items_after-one, last_color-append, last_color-one}
-use Rattle.pg_peekable.specs.Inside.LookedUpTable.{starts}
+use Rattle.pg_peekable.specs.Inside.{starts, IsReading, IsCellLine}
 use Rattle.pg_layout.specs.Text.{Text, lines_of}
-use Rattle.pg_picture.specs.Inside.Cells.{HasRoomFor, facts_of, place_of, text_line_at, line_if, placed_line}
 use Rattle.pg_picture.proofs.PlacesOfTexts.{place_in-tall, place-lines, room-of-line, block_line-at, cell_fits-width}
 use Rattle.pg_peekable.specs.declared.kept.Reading.{Reading}
 use Rattle.pg_peekable.specs.declared.rectangle.Rectangle.{Rectangle}
-use Rattle.pg_peekable.specs.Inside.Kept.{IsReading}
-use Rattle.pg_peekable.specs.Inside.Lines.{IsCellLine}
 use Rattle.std.specs.Borrow.{Bor}
 use Rattle.std.specs.Option.{option_map, unwrap_or}
 

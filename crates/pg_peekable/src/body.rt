@@ -4,10 +4,10 @@ ghost use Rattle.std.specs.Prelude.{◌≡◌, ◌≤◌, ◌+◌, [], ◌∷◌
 ghost use Rattle.std.specs.List.{range_with_len};
 ghost use Rattle.pg_config.specs.Config.{has_horizontal};
 ghost use Rattle.pg_picture.specs.Appending.{Appends};
-ghost use Rattle.pg_picture.specs.Inside.Following.{body_text};
+ghost use Rattle.pg_picture.specs.Inside.{body_text};
 ghost use Rattle.pg_picture.specs.Marks.{sep, line as line_mark, only_if, marks_of_row, marks_above};
 ghost use Rattle.pg_picture.specs.Table.{Known, table_body};
-ghost use Rattle.pg_peekable.specs.Inside.Lines.{HasRow, HasRoom};
+ghost use Rattle.pg_peekable.specs.Inside.{HasRow, HasRoom};
 
 use crate::kept::KeptCells;
 use crate::lines::{LineOfRow, Separator};

@@ -49,14 +49,14 @@ where
     ghost use Rattle.pg_picture.specs.Appending.{Appends};
     ghost use Rattle.pg_picture.specs.Fits.{misfit_of};
     ghost use Rattle.pg_picture.specs.Grids.{table_of_parts};
-    ghost use Rattle.pg_picture.specs.Inside.Following.{body_text};
+    ghost use Rattle.pg_picture.specs.Inside.{body_text};
     ghost use Rattle.pg_picture.specs.Joined.{joined};
     ghost use Rattle.pg_picture.specs.Picture.{picture, picture_lines};
     ghost use Rattle.pg_picture.specs.Sizes.{unless_misfit};
     ghost use Rattle.pg_picture.specs.Straight.{IsStraight};
     ghost use Rattle.pg_picture.specs.Table.{Known, is_empty, table_body};
     ghost use Rattle.pg_peekable.specs.Grids.{printed_table};
-    ghost use Rattle.pg_peekable.specs.Inside.LookedUpTable.{CanDraw, IsFull, IsShapeOf};
+    ghost use Rattle.pg_peekable.specs.Inside.{CanDraw, IsFull, IsShapeOf};
 
     /// Whether the table fits: its spans, its totals, and in each cell the text's widest line, the
     /// side paddings and the top padding. Lines for which a row isn't high enough are no misfit:

@@ -3,8 +3,8 @@
 ghost use Rattle.std.specs.Prelude.{◌≡◌, ⊤, ◌≤◌, ◌<◌, ℕ, List, IfSome, drop, length, slice_index_or, string_bytes, [], None};
 ghost use Rattle.pg_layout.specs.LineCursor.{StandsIn, line_number};
 ghost use Rattle.pg_layout.specs.Text.{lines_of};
-ghost use Rattle.pg_picture.specs.Inside.Cells.{line_if};
-ghost use Rattle.pg_peekable.specs.Inside.Kept.{Reads, IsReading, IsKept, IsRectangle, IsSeparator, AllSlots};
+ghost use Rattle.pg_picture.specs.Inside.{line_if};
+ghost use Rattle.pg_peekable.specs.Inside.{Reads, IsReading, IsKept, IsRectangle, IsSeparator, AllSlots};
 ghost use Rattle.std.proofs.Props.{props};
 
 use crate::rectangle::Rectangle;

@@ -1,6 +1,6 @@
 //! The lines that are drawn: those of rows, and separators.
 
-ghost use Rattle.pg_peekable.specs.Inside.Lines.{IsLine, IsSeparatorLine};
+ghost use Rattle.pg_peekable.specs.Inside.{IsLine, IsSeparatorLine};
 ghost use Rattle.std.proofs.Props.{props};
 
 use pg_picture::TableMarker;

@@ -5,8 +5,7 @@ ghost use Rattle.pg_config.specs.Config.{has_horizontal};
 ghost use Rattle.pg_config.specs.Spans.{left_span, span_above};
 ghost use Rattle.pg_layout.specs.declared.position.Position.{Position};
 ghost use Rattle.pg_picture.specs.Grids.{table_of_parts};
-ghost use Rattle.pg_peekable.specs.Inside.LookedUpTable.{IsShapeOf, CanDraw, HasNoSpans};
-ghost use Rattle.pg_peekable.specs.Inside.LookedUpTableProps.{IsAscending-prop};
+ghost use Rattle.pg_peekable.specs.Inside.{IsShapeOf, CanDraw, HasNoSpans, IsAscending-prop};
 ghost use Rattle.std.proofs.Props.{props};
 
 use pg_config::Span;

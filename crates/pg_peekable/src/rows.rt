@@ -6,8 +6,7 @@ ghost use Rattle.pg_picture.specs.Appending.{Appends};
 ghost use Rattle.pg_picture.specs.Pieces.{written};
 ghost use Rattle.pg_picture.specs.Plain.{cell_line};
 ghost use Rattle.pg_picture.specs.Table.{row_part, line_of_row, vertical, line_of_cell};
-ghost use Rattle.pg_peekable.specs.Inside.Kept.{IsReading};
-ghost use Rattle.pg_peekable.specs.Inside.Lines.{IsCellLine, rectangle_at};
+ghost use Rattle.pg_peekable.specs.Inside.{IsReading, IsCellLine, rectangle_at};
 ghost use Rattle.std.proofs.Props.{props};
 
 use crate::kept::{KeptCells, Reading};

@@ -5,9 +5,9 @@ ghost use Rattle.std.specs.List.{range_with_len};
 ghost use Rattle.pg_config.specs.Config.{get_horizontal};
 ghost use Rattle.pg_picture.specs.Appending.{Appends};
 ghost use Rattle.pg_picture.specs.Pieces.{separator_text};
-ghost use Rattle.pg_picture.specs.Inside.Following.{items_after, last_color};
+ghost use Rattle.pg_picture.specs.Inside.{items_after, last_color};
 ghost use Rattle.pg_picture.specs.Table.{separator_items, separator_part, crossing_at, border_items};
-ghost use Rattle.pg_peekable.specs.Inside.Lines.{IsInner};
+ghost use Rattle.pg_peekable.specs.Inside.{IsInner};
 
 use crate::kept::KeptCells;
 use crate::lines::Separator;

@@ -2,7 +2,7 @@
 
 ghost use Rattle.std.specs.Prelude.{◌≡◌};
 ghost use Rattle.pg_picture.specs.Appending.{Appends};
-ghost use Rattle.pg_picture.specs.Inside.Following.{body_text};
+ghost use Rattle.pg_picture.specs.Inside.{body_text};
 ghost use Rattle.pg_picture.specs.Table.{Known, table_body};
 
 use crate::kept::{KeptCell, KeptCells, KeptRectangle, no_slots};

@@ -7,11 +7,10 @@ ghost use Rattle.pg_config.specs.Spans.{corner, left_span, span_above};
 ghost use Rattle.pg_layout.specs.Position.{at};
 ghost use Rattle.pg_picture.specs.Appending.{Appends};
 ghost use Rattle.pg_picture.specs.Pieces.{written, block};
-ghost use Rattle.pg_picture.specs.Inside.Following.{items_after, last_color};
+ghost use Rattle.pg_picture.specs.Inside.{items_after, last_color, rows_height};
 ghost use Rattle.pg_picture.specs.Marks.{sep, line as line_mark};
 ghost use Rattle.pg_picture.specs.Table.{row_part, separator_part, vertical, block_at, rect_width, rect_height, crossing_at, line_of_cell};
-ghost use Rattle.pg_picture.specs.Inside.Rectangles.{rows_height};
-ghost use Rattle.pg_peekable.specs.Inside.Walks.{BeginsHere, BeginsAbove, IsOwnerOf, OwnsRow, IsRowFrom};
+ghost use Rattle.pg_peekable.specs.Inside.{BeginsHere, BeginsAbove, IsOwnerOf, OwnsRow, IsRowFrom};
 
 use crate::kept::{KeptCells, KeptRectangle};
 use crate::lines::{LineOfRow, Separator};

@@ -19,7 +19,7 @@ use Rattle.pg_picture.specs.Table.{Table, rect_marks, rect_height, rect_width, b
 use Rattle.pg_picture.specs.Fits.{body_height, totals_fit, cell_fits}
 use Rattle.pg_picture.specs.Fitting.{TableFits}
 use Rattle.pg_picture.specs.Rectangles.{IsOwner}
-use Rattle.pg_picture.specs.Inside.Rectangles.{rows_height}
+use Rattle.pg_picture.specs.Inside.{rows_height}
 use Rattle.pg_picture.proofs.FittingTables.{RectInside, rect_inside, totals_facts, owner_fits-own}
 use Rattle.pg_picture.proofs.OwnersOfPlaces.{InOrder, Found, left_sound, room_among, owner_is, size_of_corner}
 

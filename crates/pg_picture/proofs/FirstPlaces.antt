@@ -5,7 +5,7 @@ use Rattle.std.proofs.lemmas.Bool.Decides.{nat_tests}
 use Rattle.pg_layout.specs.Position.{at, is_at}
 use Rattle.pg_layout.specs.declared.position.Position.{Position}
 use Rattle.pg_config.specs.Spans.{Span, corner, size_of, owner, is_left, left_span, if_above}
-use Rattle.pg_picture.specs.Inside.Rectangles.{columns_or_one}
+use Rattle.pg_picture.specs.Inside.{columns_or_one, first_failed, owner_passes, row_places, places_from}
 use Rattle.pg_picture.proofs.OwnersOfPlaces.{InOrder, option_cases, left_sound, owner_found, size_of_corner, owner_alone, step_positive, step_inside, next_left, inner}
 use Rattle.pg_picture.proofs.Owners.{is_at-same}
 use Rattle.std.specs.List.{range_with_len}
@@ -18,7 +18,6 @@ use Rattle.pg_picture.specs.Sizes.{unless_misfit}
 use Rattle.pg_picture.specs.Pieces.{Style, style_at}
 use Rattle.pg_picture.specs.Shown.{owner_shows_all, unshown_of, misfit_or_cell, is_one_line, compact_unshown_of}
 use Rattle.pg_picture.specs.Table.{Table, rect_width, rect_height}
-use Rattle.pg_picture.specs.Inside.Walks.{first_failed, owner_passes, row_places, places_from}
 use Rattle.pg_layout.specs.Text.{Text}
 use Rattle.std.specs.Option.{option_map}
 use Rattle.pg_picture.specs.declared.fits.Misfit.TheVariants.{Spans, Totals, Room}

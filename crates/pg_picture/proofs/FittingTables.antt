@@ -15,7 +15,7 @@ use Rattle.std.proofs.lemmas.Bool.{and_parts, false≢true, or_parts, cases_Bool
 use Rattle.pg_layout.specs.Borders.{has_top, has_bottom, has_inner_horizontal, has_side}
 use Rattle.pg_config.specs.Overrides.{sets_rows, overrides_row}
 use Rattle.pg_config.proofs.EqualLines.{nothing}
-use Rattle.pg_picture.specs.Inside.RowLines.{may_have_row_lines}
+use Rattle.pg_picture.specs.Inside.{may_have_row_lines}
 use Rattle.std.specs.Borrow.{Bor}
 use Rattle.pg_layout.specs.Colors.{Color}
 use Rattle.pg_layout.specs.Text.{Text, lines_of, without_blank_ends}

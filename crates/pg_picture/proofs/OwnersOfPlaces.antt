@@ -11,11 +11,10 @@ use Rattle.pg_layout.specs.declared.position.Position.{Position}
 use Rattle.pg_layout.specs.Position.{at}
 use Rattle.pg_layout.specs.Places.{same, before, comes, value_at, last_up_to, Each, IsAscending, last_before, next_from}
 use Rattle.pg_config.specs.Spans.{Span, corner, in_span, owner, is_left, begins_above, same_owner, left_span, size_of, span_size}
-use Rattle.pg_picture.specs.Inside.Rectangles.{columns_or_one}
+use Rattle.pg_picture.specs.Inside.{columns_or_one, HasEnd, is_past, columns_apart, rows_apart, apart_right, ends_above, apart_at}
 use Rattle.pg_picture.specs.Fits.{are_apart, all_apart, span_fits, spans_fit, span_fits_columns}
 use Rattle.std.specs.Cmp.{both_ways}
 use Rattle.std.specs.Option.{IfSome}
-use Rattle.pg_picture.specs.Inside.SpansByColumns.{HasEnd, is_past, columns_apart, rows_apart, apart_right, ends_above, apart_at}
 
 -- ---- where rectangles share no place, each place has one owner, and one search finds it at the left columns of a row
 

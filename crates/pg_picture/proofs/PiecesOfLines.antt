@@ -13,13 +13,11 @@ use Rattle.std.proofs.lemmas.Bool.{and_parts, false≢true, cases_Bool}
 use Rattle.std.proofs.lemmas.Bool.Decides.{nat_tests}
 use Rattle.pg_layout.specs.Colors.{Color, str_color, lent_color}
 use Rattle.pg_picture.specs.CompactLines.{colored_glyph, Part, own_or, parts_after, compact_indent, compact_cell_of, part_if, main_part}
-use Rattle.pg_picture.specs.Inside.Cells.{has_plain_sides, line_parts}
+use Rattle.pg_picture.specs.Inside.{has_plain_sides, line_parts, is_blank_in, part_after, open_parts, open_color}
 use Rattle.pg_layout.specs.declared.sides.Indent.{Indent}
 use Rattle.pg_layout.specs.declared.sides.Offset.{Offset}
 use Rattle.pg_layout.specs.declared.sides.Offset.TheVariants.{Start, End}
 use Rattle.pg_picture.specs.Table.{Unknown, margin_line, is_blank_at, side_margin, side_margin_at}
-use Rattle.pg_picture.specs.Inside.Margins.{is_blank_in}
-use Rattle.pg_picture.specs.Inside.Following.{part_after, open_parts, open_color}
 use Rattle.pg_layout.specs.declared.alignment.AlignmentHorizontal.{AlignmentHorizontal}
 use Rattle.pg_layout.specs.declared.colors.ANSIStr.{ANSIStr}
 use Rattle.pg_layout.specs.declared.sides.Sides.{Sides}

@@ -7,7 +7,7 @@ use Rattle.std.proofs.lemmas.List.Sums.{suffix_len-le-length, prefix_len-le-leng
 use Rattle.std.proofs.lemmas.List.Folds.{prefix_len-append}
 use Rattle.pg_layout.specs.Text.{Text, is_blank, blank_top, blank_bottom, without_blank_ends, lines_of, width_of, greatest, text_width_of}
 use Rattle.pg_picture.specs.declared.facts.BlankEnds.{BlankEnds}
-use Rattle.pg_picture.specs.Inside.Cells.{with_line, empty_lines_of, facts_of, shared_left, place_of, place_in, text_line_at, share_of, line_if, shown_line, placed_line, line_parts, shows_texts_whole, has_plain_sides, is_simple}
+use Rattle.pg_picture.specs.Inside.{with_line, empty_lines_of, facts_of, shared_left, place_of, place_in, text_line_at, share_of, line_if, shown_line, placed_line, line_parts, shows_texts_whole, has_plain_sides, is_simple}
 use Rattle.std.specs.Str.{trim}
 use Rattle.std.proofs.lemmas.Bool.{and_parts}
 use Rattle.pg_layout.specs.declared.alignment.Formatting.{Formatting}
@@ -22,7 +22,7 @@ use Rattle.pg_layout.specs.Colors.{Color}
 use Rattle.pg_picture.specs.Fits.{cell_fits}
 use Rattle.pg_picture.specs.declared.place.CellPlace.{CellPlace}
 use Rattle.pg_picture.proofs.PiecesOfLines.{written-append, written-cons}
-use Rattle.pg_picture.specs.Inside.Styles.{DrawsAs}
+use Rattle.pg_picture.specs.Inside.{DrawsAs}
 use Rattle.pg_picture.specs.Straight.{IsNarrow, HasNarrowFills}
 
 -- ---- the blank lines at both ends of a text, counted line by line

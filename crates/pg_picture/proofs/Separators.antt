@@ -17,12 +17,11 @@ use Rattle.pg_picture.specs.Table.{Table, crossing_at, vertical_at, border_glyph
 use Rattle.pg_picture.specs.Straight.{HasNoGaps}
 use Rattle.pg_layout.specs.Colors.{Color, lent_color, same_color, color_eq-equiv}
 use Rattle.pg_picture.specs.Pieces.{Item, fill, glyph_piece, written, glyph, spaces, cut, repeated, in_color, prefix_of, suffix_of, color_after, item_text, with_cuts, separator_text}
-use Rattle.pg_picture.specs.Inside.Following.{items_after, last_color, item_after}
+use Rattle.pg_picture.specs.Inside.{items_after, last_color, item_after, verticals_of}
 use Rattle.std.specs.Prelude.{unwrap_or}
 use Rattle.std.specs.Borrow.{Bor}
 use Rattle.pg_config.specs.Settings.{has_some}
 use Rattle.pg_config.specs.Offsets.{Offsets, has_offsets, lookup_offset, glyph_at, of_place, is_offset_at}
-use Rattle.pg_picture.specs.Inside.Verticals.{verticals_of}
 use Rattle.pg_picture.specs.declared.sheet.VerticalKind.TheVariants.{Absent, Whole, ByLine}
 use Rattle.pg_picture.proofs.PiecesOfLines.{written-nil, repeated-zero, repeated-one, repeated-suc, written-fill}
 use Rattle.pg_picture.specs.Marks.{only_if}

@@ -11,7 +11,7 @@ use Rattle.pg_config.specs.Spans.{Span, corner, in_span, owner, is_left, begins_
 use Rattle.pg_picture.specs.Marks.{sep, line}
 use Rattle.pg_picture.specs.Pieces.{Item, block}
 use Rattle.pg_picture.specs.Table.{Table, block_at, row_part, vertical, is_inside, is_covered, crossing, crossing_at, column_items, horizontal_items, separator_part}
-use Rattle.pg_picture.specs.Inside.Rectangles.{columns_or_one}
+use Rattle.pg_picture.specs.Inside.{columns_or_one}
 use Rattle.pg_picture.proofs.Ranges.{range-add}
 use Rattle.pg_picture.proofs.OwnersOfPlaces.{InOrder, step, step_positive, step_inside, first_left, next_left, not_inside, inner, owner_found, owner_alone, option_cases, left_sound, room_among, Among, find_cases, owner_is}
 

@@ -5,7 +5,7 @@ ghost use Rattle.std.specs.List.{range_with_len};
 ghost use Rattle.pg_layout.specs.Colors.{lent_color};
 ghost use Rattle.pg_config.specs.Config.{get_horizontal};
 ghost use Rattle.pg_picture.specs.Appending.{Appends};
-ghost use Rattle.pg_picture.specs.Inside.Following.{items_after, last_color};
+ghost use Rattle.pg_picture.specs.Inside.{items_after, last_color};
 ghost use Rattle.pg_picture.specs.Table.{border_glyph, border_items, crossing_at};
 
 use crate::run::Run;

@@ -6,7 +6,7 @@ ghost use Rattle.pg_layout.specs.Text.{lines_of, width_of};
 ghost use Rattle.pg_picture.specs.Appending.{Appends};
 ghost use Rattle.pg_picture.specs.Fits.{cell_fits};
 ghost use Rattle.pg_picture.specs.Pieces.{written, fill, repeated, widest, inner_width, line_with, block_line};
-ghost use Rattle.pg_picture.specs.Inside.Cells.{HasRoomFor, style_of, facts_of, place_of, share_of, line_if, line_parts, placed_line, shows_texts_whole, has_plain_sides};
+ghost use Rattle.pg_picture.specs.Inside.{HasRoomFor, style_of, facts_of, place_of, share_of, line_if, line_parts, placed_line, shows_texts_whole, has_plain_sides};
 
 use crate::facts::trim_if;
 use crate::fill::push_repeated;

@@ -19,7 +19,7 @@ pub(crate) struct ColumnSides {
 }
 
 impl ColumnSides {
-    ghost use Rattle.pg_picture.specs.Inside.ColumnSides.{AreSidesOf};
+    ghost use Rattle.pg_picture.specs.Inside.{AreSidesOf};
 
     /// Those of a table of so many columns.
     pub(crate) fn of<B: Allocator>(config: &SpannedConfig<B>, columns: usize) -> ColumnSides

@@ -4,7 +4,7 @@ ghost use Rattle.std.specs.Prelude.{◌≡◌, Option, None, IfOk, option_map};
 ghost use Rattle.pg_layout.specs.Colors.{Color, str_color};
 ghost use Rattle.pg_picture.specs.Appending.{Appends};
 ghost use Rattle.pg_picture.specs.CompactLines.{own_or, part_if, main_part};
-ghost use Rattle.pg_picture.specs.Inside.Following.{part_after, open_parts, open_color};
+ghost use Rattle.pg_picture.specs.Inside.{part_after, open_parts, open_color};
 ghost use Rattle.pg_picture.specs.Pieces.{cut};
 
 use crate::cut::{push_after_cut, push_cut};

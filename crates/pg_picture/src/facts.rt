@@ -5,7 +5,7 @@ ghost use Rattle.std.specs.List.{list_all};
 ghost use Rattle.pg_layout.specs.Text.{lines_of, width_of, greatest, is_blank, is_plain_byte};
 ghost use Rattle.pg_layout.specs.Records.{text_at};
 ghost use Rattle.pg_picture.specs.Pieces.{trimmed_if};
-ghost use Rattle.pg_picture.specs.Inside.Cells.{IsOfKind, with_line, empty_lines_of, facts_of};
+ghost use Rattle.pg_picture.specs.Inside.{IsOfKind, with_line, empty_lines_of, facts_of};
 
 use pg_layout::{
     Formatting, PeekableRecords, Position, get_line_width, get_lines, get_text_width, is_blank,

@@ -3,7 +3,7 @@
 ghost use Rattle.std.specs.Prelude.{◌≡◌, ◌+◌, ◌≤◌, true, length};
 ghost use Rattle.pg_layout.specs.Text.{lines_of};
 ghost use Rattle.pg_picture.specs.Fits.{cell_fits};
-ghost use Rattle.pg_picture.specs.Inside.Cells.{style_of, shared_left, place_of, place_in, text_line_at};
+ghost use Rattle.pg_picture.specs.Inside.{style_of, shared_left, place_of, place_in, text_line_at};
 
 use crate::cell::inner_width;
 use crate::facts::TextFacts;

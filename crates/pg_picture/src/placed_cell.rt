@@ -6,8 +6,7 @@ ghost use Rattle.pg_config.specs.Config.{get_alignment_horizontal};
 ghost use Rattle.pg_picture.specs.Appending.{Appends};
 ghost use Rattle.pg_picture.specs.Fits.{cell_fits};
 ghost use Rattle.pg_picture.specs.Pieces.{written, style_at};
-ghost use Rattle.pg_picture.specs.Inside.Cells.{HasRoomFor, style_of, place_in, placed_line};
-ghost use Rattle.pg_picture.specs.Inside.Styles.{DrawsAs};
+ghost use Rattle.pg_picture.specs.Inside.{HasRoomFor, style_of, place_in, placed_line, DrawsAs};
 ghost use Rattle.std.proofs.Props.{props};
 
 use crate::cell::push_block_line_of;

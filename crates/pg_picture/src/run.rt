@@ -4,7 +4,7 @@ ghost use Rattle.std.specs.Prelude.{◌≡◌, Option, Some, None, IfOk, replica
 ghost use Rattle.pg_layout.specs.Colors.{Color, lent_color};
 ghost use Rattle.pg_picture.specs.Appending.{Appends};
 ghost use Rattle.pg_picture.specs.Pieces.{cut, glyph, spaces, item_text};
-ghost use Rattle.pg_picture.specs.Inside.Following.{item_after, items_after, last_color};
+ghost use Rattle.pg_picture.specs.Inside.{item_after, items_after, last_color};
 
 use crate::cut::{push_after_cut, push_cut, push_prefix, push_suffix};
 use crate::fill::{push_char, push_repeated};

@@ -2,7 +2,7 @@
 
 ghost use Rattle.std.specs.Prelude.{◌≡◌, ◌≤◌, ◌+◌, Option, None, IfSome, IsSome, option_map, drop, length, string_bytes, take, true};
 ghost use Rattle.std.specs.Str.{IsCharBoundary, is_utf8};
-ghost use Rattle.pg_picture.specs.Inside.KeptSeparators.{Keeping};
+ghost use Rattle.pg_picture.specs.Inside.{Keeping};
 
 use std::alloc::Allocator;
 use std::marker::Model;

@@ -2,10 +2,7 @@
 
 ghost use Rattle.std.specs.Prelude.{◌≡◌, ◌&&◌, ◌||◌, ◌==◌, nat_lt};
 ghost use Rattle.std.specs.Option.{ForSome};
-ghost use Rattle.pg_picture.specs.Inside.ColumnSides.{AreSidesOf};
-ghost use Rattle.pg_picture.specs.Inside.Cells.{are_simple, has_plain_sides};
-ghost use Rattle.pg_picture.specs.Inside.RowLines.{may_have_row_lines};
-ghost use Rattle.pg_picture.specs.Inside.Verticals.{verticals_of};
+ghost use Rattle.pg_picture.specs.Inside.{AreSidesOf, are_simple, has_plain_sides, may_have_row_lines, verticals_of};
 ghost use Rattle.pg_config.specs.Cells.{style_of};
 ghost use Rattle.pg_config.specs.Common.{IsStyleButAcross, inner_vertical};
 

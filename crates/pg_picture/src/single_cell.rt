@@ -5,7 +5,7 @@ ghost use Rattle.pg_config.specs.Config.{get_alignment_horizontal};
 ghost use Rattle.pg_picture.specs.Appending.{Appends};
 ghost use Rattle.pg_picture.specs.Fits.{cell_fits};
 ghost use Rattle.pg_picture.specs.Pieces.{written, style_at, block_line};
-ghost use Rattle.pg_picture.specs.Inside.Cells.{IsOfKind, style_of, is_simple};
+ghost use Rattle.pg_picture.specs.Inside.{IsOfKind, style_of, is_simple};
 ghost use Rattle.std.proofs.Props.{props};
 
 use crate::cell::{

@@ -6,7 +6,7 @@ ghost use Rattle.pg_layout.specs.Text.{Text};
 ghost use Rattle.pg_config.specs.Spans.{is_left, left_span, size_of};
 ghost use Rattle.pg_picture.specs.Fits.{spans_fit, totals_fit};
 ghost use Rattle.pg_picture.specs.Pieces.{Style, style_at};
-ghost use Rattle.pg_picture.specs.Inside.Walks.{first_failed, owner_passes, row_places, places_from};
+ghost use Rattle.pg_picture.specs.Inside.{first_failed, owner_passes, row_places, places_from};
 ghost use Rattle.pg_picture.specs.Sizes.{table_of};
 ghost use Rattle.pg_picture.specs.Table.{rect_width, rect_height};
 

@@ -9,7 +9,7 @@ use Rattle.pg_config.specs.Spans.{rect_rows}
 use Rattle.pg_picture.specs.Marks.{Mark, sep, line, only_if, marks_of_row, marks_above, stands_within}
 use Rattle.pg_picture.proofs.MarksOfRectangles.{row_lines, row_first, row_inside, above_first}
 use Rattle.pg_stream.specs.Open.{drawn_before}
-use Rattle.pg_stream.specs.Inside.Slots.{separator_height}
+use Rattle.pg_stream.specs.Inside.{separator_height}
 
 -- a row has its separator's line and its own
 pub length_of_row : (config : Config) (height : ℕ → ℕ) (k : ℕ) → length (marks_of_row config height k) ≡ separator_height config k + height k

@@ -21,9 +21,7 @@ use Rattle.pg_picture.specs.Table.{Table, Unknown, rect_width, crossing_at, body
 use Rattle.pg_picture.specs.declared.fits.Misfit.{Misfit}
 use Rattle.pg_picture.specs.declared.fits.Misfit.TheVariants.{Spans}
 use Rattle.pg_stream.specs.Conditions.{HaveRoom, RowFits, printer_misfit}
-use Rattle.pg_stream.specs.Inside.StreamedTable.{open_separator_part, open_separator, IsSeparator}
-use Rattle.pg_stream.specs.Inside.Held.{IsSoundAt}
-use Rattle.pg_stream.specs.Inside.Sized.{first_height, height_in, IsSizedAt}
+use Rattle.pg_stream.specs.Inside.{open_separator_part, open_separator, IsSeparator, IsSoundAt, first_height, height_in, IsSizedAt}
 use Rattle.pg_stream.specs.Laws.{RowsCountTheirLines, AreNextHeights, SizedRowsMakeThePicture}
 use Rattle.pg_stream.specs.Open.{Slot}
 use Rattle.pg_stream.specs.Placed.{Placed, slots_of, AllOpen, IsPlaced}

@@ -2,7 +2,7 @@
 use Rattle.std.specs.Prelude.{◌≡◌, ℕ, ◌+◌, ◌<◌, ◌≤◌, List, map, IfSome, slice_index_or, Option, Some, None}
 use Rattle.pg_layout.specs.Position.{at}
 use Rattle.pg_layout.specs.Text.{Text}
-use Rattle.pg_picture.specs.Inside.Cells.{facts_of, place_of}
+use Rattle.pg_picture.specs.Inside.{facts_of, place_of}
 use Rattle.pg_picture.specs.Pieces.{style_at, widest}
 use Rattle.pg_picture.specs.Sizes.{height_of_rect}
 use Rattle.pg_picture.specs.Table.{Table, rect_width}

@@ -20,8 +20,7 @@ use Rattle.pg_picture.specs.Table.{full_width}
 use Rattle.pg_table.specs.declared.overflow.Overflow.{Overflow}
 use Rattle.pg_table.specs.declared.sizes.Axis.TheVariants.{Columns}
 use Rattle.pg_table.specs.Natural.{paddings, cell_size, natural_size, natural_sizes, natural_table}
-use Rattle.pg_table.specs.Inside.Fitting.{HasPlainWidths, plain_full_width}
-use Rattle.pg_table.specs.Inside.Sizes.{plain_size}
+use Rattle.pg_table.specs.Inside.{HasPlainWidths, plain_full_width, plain_size}
 use Rattle.pg_table.specs.Fitted.{overflowed, fitted_text, least_text_width, least_column_width, beside_columns, limit_of, column_range, column_ranges, column_widths, fitted_at, column_texts}
 use Rattle.pg_table.proofs.ListedSizes.{size-at}
 use Rattle.pg_table.proofs.NaturalRoom.{full_width-is}

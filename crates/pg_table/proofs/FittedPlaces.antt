@@ -19,7 +19,7 @@ use Rattle.pg_table.specs.declared.overflow.Overflow.{Overflow}
 use Rattle.pg_table.specs.declared.sizes.Axis.TheVariants.{Columns}
 use Rattle.pg_table.specs.Natural.{paddings, natural_sizes, natural_table}
 use Rattle.pg_table.specs.Fitted.{limit_of, least_text_width, least_column_width, column_widths, text_room, fitted_at, column_texts, HasPlainTail}
-use Rattle.pg_table.specs.Inside.Fitting.{HasPlainWidths, plain_full_width, fitted_to, HasRoomAt, FitsColumn, AreFittedBelow}
+use Rattle.pg_table.specs.Inside.{HasPlainWidths, plain_full_width, fitted_to, HasRoomAt, FitsColumn, AreFittedBelow}
 use Rattle.pg_table.proofs.ListedSizes.{cell-least}
 use Rattle.pg_table.proofs.FittedColumns.{least-narrowed, fitted_text-stays, cell-wide, same-listed, lines-narrow, columns-narrow}
 use Rattle.pg_table.proofs.NaturalRoom.{width-at}

@@ -13,7 +13,7 @@ use Rattle.pg_picture.specs.Table.{Table, full_width}
 use Rattle.pg_picture.proofs.OwnersOfPlaces.{InOrder}
 use Rattle.pg_table.specs.declared.overflow.Overflow.{Overflow}
 use Rattle.pg_table.specs.Fitted.{least_column_width, least_width_at, least_full_width, column_texts, fitted_texts, fitted_table}
-use Rattle.pg_table.specs.Inside.Fitting.{AreFittedAlone, AreFittedTogether, IsFitted, plain_full_width}
+use Rattle.pg_table.specs.Inside.{AreFittedAlone, AreFittedTogether, IsFitted, plain_full_width}
 use Rattle.pg_table.specs.Natural.{natural_table}
 use Rattle.pg_table.specs.Overflowing.{beside_columns, limit_of, HasPlainTail}
 use Rattle.pg_table.specs.Spanning.{keeps_spans, least_cell_width, table_from, spanned_text, spanned_texts, spanned_widths}

@@ -32,7 +32,7 @@ use Rattle.pg_table.proofs.ListedSizes.{cell-below, natural-with_cells, size-at,
 use Rattle.pg_table.proofs.Widenings.{cells_have_room, no_column_shrinks, widened-stays, widened-base, sum-same}
 use Rattle.pg_table.proofs.ShownCells.{fits-among, all-among, among-all, size-single, size-corner, IsCorner, shown-cases, sized-from, cells-from}
 use Rattle.std.proofs.lemmas.List.FromFn.{length-map-range_with_len, get_or-map-range_with_len, fill_by_all}
-use Rattle.pg_table.specs.Inside.Measuring.{with_room}
+use Rattle.pg_table.specs.Inside.{with_room}
 use Rattle.pg_picture.specs.Shown.{cell_shows_all, owner_shows_all, misfit_or_cell}
 use Rattle.pg_picture.specs.declared.fits.Misfit.{Misfit}
 use Rattle.pg_table.specs.ShownLaws.{NaturalHeightsShowAll, table_of_widths}

@@ -8,7 +8,7 @@ use Rattle.pg_layout.specs.Text.{Text}
 use Rattle.pg_layout.proofs.TextLines.{greatest-reaches}
 use Rattle.pg_config.specs.Config.{Config}
 use Rattle.pg_table.specs.Natural.{paddings, cell_size, cell_at, count, count_cells, natural_size, natural_sizes, cells_fit}
-use Rattle.pg_table.specs.Inside.Sizes.{plain_size}
+use Rattle.pg_table.specs.Inside.{plain_size, HasPlainWidths}
 use Rattle.pg_table.specs.declared.sizes.Axis.{Axis}
 use Rattle.pg_table.specs.declared.sizes.Axis.TheVariants.{Columns, Rows}
 use Rattle.pg_table.proofs.ListedSizes.{natural-without_cells}
@@ -16,7 +16,6 @@ use Rattle.pg_table.proofs.NaturalRoom.{plain_tables_are_as_they_were, map-below
 use Rattle.pg_table.proofs.ShownCells.{cells-from}
 use Rattle.std.proofs.lemmas.Bool.{cases_lt}
 use Rattle.pg_config.specs.Spans.{Span}
-use Rattle.pg_table.specs.Inside.Fitting.{HasPlainWidths}
 
 -- ---- the size of a column or a row without spans is no less than each of its cells
 

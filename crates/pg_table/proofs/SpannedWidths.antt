@@ -35,7 +35,7 @@ use Rattle.pg_picture.specs.Pieces.{widest}
 use Rattle.pg_picture.specs.Sizes.{sized, if_fits}
 use Rattle.pg_picture.specs.Table.{Table, full_width, total_width, rect_width}
 use Rattle.pg_picture.proofs.OwnersOfPlaces.{Among, InOrder, find_cases, size_of_corner, room_among}
-use Rattle.pg_table.specs.Inside.Fitting.{IsBefore, HasRoomTogether, AreFittedTo, HasHugeLeast}
+use Rattle.pg_table.specs.Inside.{IsBefore, HasRoomTogether, AreFittedTo, HasHugeLeast}
 use Rattle.pg_table.proofs.ToldTables.{width-at}
 use Rattle.pg_picture.proofs.Ranges.{sum_by-part_le}
 use Rattle.pg_table.specs.Widening.{widened}

@@ -51,7 +51,7 @@ where
     ghost use Rattle.pg_picture.specs.Table.{full_width, is_empty};
     ghost use Rattle.pg_table.specs.Fitted.{HasPlainTail, limit_of, printed_fitted_table, fitted_of, fit_fault_of, least_at, least_width_of, least_fault_of, IsNarrowOf};
     ghost use Rattle.pg_table.specs.Spanning.{keeps_spans};
-    ghost use Rattle.pg_table.specs.Inside.Fitting.{IsFitted, plain_full_width};
+    ghost use Rattle.pg_table.specs.Inside.{IsFitted, plain_full_width};
     ghost use Rattle.pg_table.specs.Printing.{printed_table_of, natural_parts};
 
     /// The width of a line, in terminal columns, if each column is as narrow as wrapping or cutting

@@ -8,8 +8,7 @@ ghost use Rattle.pg_config.specs.Spans.{corner, is_visible};
 ghost use Rattle.pg_picture.specs.Fits.{span_fits, spans_fit};
 ghost use Rattle.pg_picture.specs.Sizes.{if_fits};
 ghost use Rattle.pg_table.specs.Natural.{all_fit, text_size, cell_size, single_size, is_single, is_sized, cells_fit, size_of_singles, need_of, natural_sizes};
-ghost use Rattle.pg_table.specs.Inside.Sizes.{count_of, cells_of};
-ghost use Rattle.pg_table.specs.Inside.Measuring.{most, IsHuge, HasHugeIn, HasHuge, high, wide, with_room};
+ghost use Rattle.pg_table.specs.Inside.{count_of, cells_of, most, IsHuge, HasHugeIn, HasHuge, high, wide, with_room};
 ghost use Rattle.pg_table.specs.Spanning.{widths_from};
 ghost use Rattle.pg_table.specs.declared.sizes.Axis.TheVariants.{Columns, Rows};
 

@@ -10,7 +10,7 @@ ghost use Rattle.pg_picture.specs.Sizes.{if_fits};
 ghost use Rattle.pg_fit.specs.Overlaid.{other_text};
 ghost use Rattle.pg_table.specs.Natural.{paddings, all_fit};
 ghost use Rattle.pg_table.specs.Fitted.{least_text_width, beside_columns, limit_of, column_ranges, IsNarrow};
-ghost use Rattle.pg_table.specs.Inside.Fitting.{text_of, rows_of, least_of, naturals_of, widths_of, AreWithin, fitted_to, HasRoomAt, FitsColumn, AreFittedBelow};
+ghost use Rattle.pg_table.specs.Inside.{text_of, rows_of, least_of, naturals_of, widths_of, AreWithin, fitted_to, HasRoomAt, FitsColumn, AreFittedBelow};
 ghost use Rattle.pg_table.specs.declared.sizes.Axis.TheVariants.{Columns};
 
 use crate::fault::TableFault;

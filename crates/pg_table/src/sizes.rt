@@ -79,7 +79,7 @@ pub(crate) struct NaturalSizes<'a, R, B: Allocator> {
 }
 
 impl<'a, R: PeekableRecords + ExactRecords, B: Allocator> NaturalSizes<'a, R, B> {
-    ghost use Rattle.pg_table.specs.Inside.Sizes.{size_of, sizes_of, count_of, cells_of};
+    ghost use Rattle.pg_table.specs.Inside.{size_of, sizes_of, count_of, cells_of};
 
     /// The natural sizes of these records in a table with these settings.
     pub(crate) fn new(records: R, config: &'a SpannedConfig<B>) -> NaturalSizes<'a, R, B>

@@ -16,7 +16,7 @@ ghost use Rattle.pg_table.specs.Fitted.{fit_fault_of, least_fault_of, least_widt
 ghost use Rattle.pg_table.specs.Overflowing.{limit_of};
 ghost use Rattle.pg_table.specs.Printing.{natural_parts};
 ghost use Rattle.pg_table.specs.Spanning.{keeps_spans, singles_width, room_needed, least_cell_width, spanned_least_width, are_within, spanned_widths, cell_room, spanned_text};
-ghost use Rattle.pg_table.specs.Inside.Fitting.{IsHugeLeast, HasHugeLeast, HasRoomTogether, AreFittedTo, AreFittedTogether};
+ghost use Rattle.pg_table.specs.Inside.{IsHugeLeast, HasHugeLeast, HasRoomTogether, AreFittedTo, AreFittedTogether};
 ghost use Rattle.pg_table.specs.declared.sizes.Axis.TheVariants.{Columns};
 
 use crate::fault::TableFault;

@@ -22,7 +22,7 @@ use Rattle.pg_picture.specs.Pieces.{shown, widest}
 use Rattle.pg_picture.proofs.OwnersOfPlaces.{InOrder}
 use Rattle.pg_picture.proofs.PlacesOfTexts.{length-shown, widest-untrimmed}
 use Rattle.pg_table.specs.Natural.{cell_size, is_sized, paddings}
-use Rattle.pg_table.specs.Inside.Sizes.{plain_size}
+use Rattle.pg_table.specs.Inside.{plain_size}
 use Rattle.pg_table.specs.declared.sizes.Axis.TheVariants.{Columns, Rows}
 use Rattle.pg_table.proofs.Faults.{cells-no_fault}
 use Rattle.pg_table.proofs.NaturalRoom.{map-below}

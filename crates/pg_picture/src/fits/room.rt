@@ -4,7 +4,7 @@ ghost use Rattle.std.specs.Prelude.{◌≡◌, ◌+◌, ◌-◌, ◌≤◌, ◌&
 ghost use Rattle.pg_layout.specs.Text.{lines_of, width_of, greatest};
 ghost use Rattle.pg_picture.specs.Pieces.{Style, style_at, trimmed_if};
 ghost use Rattle.pg_picture.specs.Fits.{cell_fits};
-ghost use Rattle.pg_picture.specs.Inside.Cells.{IsOfKind, style_of};
+ghost use Rattle.pg_picture.specs.Inside.{IsOfKind, style_of};
 
 use crate::facts::{TextKind, text_width};
 use pg_config::{CellStyle, SpannedConfig};

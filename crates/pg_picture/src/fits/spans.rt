@@ -6,9 +6,8 @@ ghost use Rattle.pg_layout.specs.Keys.{by_columns};
 ghost use Rattle.pg_layout.specs.Places.{Each, IsAscending};
 ghost use Rattle.pg_layout.specs.Position.{at};
 ghost use Rattle.pg_config.specs.Spans.{if_above};
-ghost use Rattle.pg_picture.specs.Inside.Rectangles.{columns_or_one};
+ghost use Rattle.pg_picture.specs.Inside.{columns_or_one, HasEnd, is_past, columns_apart, rows_apart, apart_right, apart_at};
 ghost use Rattle.pg_picture.specs.Fits.{all_apart, span_fits, span_fits_columns, spans_fit, spans_fit_columns};
-ghost use Rattle.pg_picture.specs.Inside.SpansByColumns.{HasEnd, is_past, columns_apart, rows_apart, apart_right, apart_at};
 
 use pg_config::{Span, SpannedConfig, Spans};
 use pg_layout::Position;

@@ -5,7 +5,7 @@ ghost use Rattle.pg_layout.specs.declared.position.Position.{Position};
 ghost use Rattle.pg_layout.specs.Records.{text_at};
 ghost use Rattle.pg_config.specs.CompactConfig.{settings_of};
 ghost use Rattle.pg_picture.specs.Shown.{is_one_line, compact_table_of, compact_unshown_of, unless_unshown};
-ghost use Rattle.pg_picture.specs.Inside.Walks.{row_places, places_from};
+ghost use Rattle.pg_picture.specs.Inside.{row_places, places_from};
 
 use crate::fits::compact_fits;
 use crate::shown::Unshown;

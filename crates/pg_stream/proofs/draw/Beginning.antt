@@ -10,17 +10,15 @@ use Rattle.pg_config.specs.Spans.{Span, owner, rect_rows, rect_columns}
 use Rattle.pg_picture.specs.Fits.{spans_fit_columns}
 use Rattle.pg_picture.specs.Table.{Table}
 use Rattle.pg_picture.proofs.Owners.{Apart, HasOwners, owner-columns}
-use Rattle.pg_stream.specs.Inside.StreamedTable.{column_end, reach}
+use Rattle.pg_stream.specs.Inside.{column_end, reach, IsOwnerAbove, new_cell, begin_cell, mapped, cells_begun, close_cell, cells_closed, draw_cell}
 use Rattle.pg_stream.specs.Placed.{Placed, AllOpen, slot_of, slots_of}
-use Rattle.pg_stream.specs.Inside.Turns.{IsOwnerAbove, new_cell, begin_cell, mapped, cells_begun, close_cell, cells_closed}
 use Rattle.pg_stream.proofs.draw.OpenLists.{partly, partly-below, partly-above, partly-at, partly-set, set-same, set-other, drop-first, drop-some, closed-is, slots-drawn}
 use Rattle.pg_stream.proofs.draw.OwnersOfCells.{IsOwner, option_cases, own-test}
 use Rattle.pg_stream.proofs.printer.WholePictures.{map_range-same}
 use Rattle.std.specs.List.{range_with_len}
 use Rattle.pg_config.specs.Config.{Config}
 use Rattle.pg_stream.specs.Open.{Slot, open_at_row, open_before}
-use Rattle.pg_stream.specs.Inside.OpenCells.{draw_cell}
-use Rattle.pg_stream.specs.Inside.Slots.{draw_more, begin_at, close_at, separator_height, next_slot, slot_in_row}
+use Rattle.pg_stream.specs.Inside.{draw_more, begin_at, close_at, separator_height, next_slot, slot_in_row}
 use Rattle.pg_stream.proofs.printer.RowsOfTables.{other}
 use Rattle.pg_stream.proofs.draw.Steps.{open_step}
 

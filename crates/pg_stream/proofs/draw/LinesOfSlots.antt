@@ -12,7 +12,7 @@ use Rattle.pg_picture.specs.Sizes.{height_of_rect}
 use Rattle.pg_picture.specs.Table.{Table, rect_marks, rect_height, block_at, row_part, line_of_row, vertical, is_inside, is_covered, crossing, column_items, separator_part, separator_items}
 use Rattle.pg_picture.proofs.Owners.{HasOwners}
 use Rattle.pg_stream.specs.Open.{drawn_before, open_at_row, open_before}
-use Rattle.pg_stream.specs.Inside.Slots.{begin_at, separator_height, slot_block, slot_part, slot_line, slot_in_row, slot_item, slot_column, slot_separator_part, slot_separator}
+use Rattle.pg_stream.specs.Inside.{begin_at, separator_height, slot_block, slot_part, slot_line, slot_in_row, slot_item, slot_column, slot_separator_part, slot_separator}
 use Rattle.pg_stream.proofs.draw.Steps.{open_value, open_none, at_own, place-older, place-own, height-is, place-sep}
 use Rattle.pg_stream.proofs.printer.WholePictures.{at_range}
 use Rattle.pg_config.specs.Config.{has_horizontal}

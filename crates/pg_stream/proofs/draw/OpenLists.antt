@@ -5,15 +5,13 @@ use Rattle.pg_stream.specs.Open.{Slot}
 use Rattle.std.proofs.lemmas.List.{take_more, take_more_set, drop-set-lt, map-append, length-map}
 use Rattle.std.proofs.Math.Seq.{drop-cons}
 use Rattle.pg_stream.specs.Placed.{Placed, slot_of, slots_of, AllOpen, IsPlaced}
-use Rattle.pg_stream.specs.Inside.OpenCells.{draw_cell, IsTall, AreDrawn}
+use Rattle.pg_stream.specs.Inside.{draw_cell, IsTall, AreDrawn, draw_more, slot_block, mapped, is_done, close_cell, cells_closed, new_cell}
 use Rattle.pg_config.specs.Spans.{rect_columns, Span, rect_rows}
 use Rattle.pg_layout.specs.Position.{at}
 use Rattle.pg_picture.specs.Table.{Table, rect_width}
-use Rattle.pg_stream.specs.Inside.Slots.{draw_more, slot_block}
-use Rattle.pg_stream.specs.Inside.Turns.{mapped, is_done, close_cell, cells_closed, new_cell}
 use Rattle.pg_layout.specs.declared.position.Position.{Position}
 use Rattle.pg_layout.specs.Text.{Text}
-use Rattle.pg_picture.specs.Inside.Cells.{HasRoomFor, text_line_at, line_if, placed_line}
+use Rattle.pg_picture.specs.Inside.{HasRoomFor, text_line_at, line_if, placed_line}
 use Rattle.pg_picture.specs.Pieces.{Style, style_at, block_line}
 use Rattle.pg_picture.specs.Sizes.{height_of_rect, if_fits, sized}
 use Rattle.pg_picture.specs.declared.place.CellPlace.{CellPlace}

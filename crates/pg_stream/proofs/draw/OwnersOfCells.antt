@@ -15,19 +15,17 @@ use Rattle.pg_picture.proofs.MarksOfRectangles.{rows_from, marks_above-add}
 use Rattle.pg_picture.proofs.Owners.{HasOwners}
 use Rattle.pg_stream.specs.Open.{Slot, drawn_before, open_at_row, open_before}
 use Rattle.pg_stream.specs.Placed.{Placed, slot_of, slots_of}
-use Rattle.pg_stream.specs.Inside.OpenCells.{draw_cell}
-use Rattle.pg_stream.specs.Inside.Turns.{IsOwnerAbove}
+use Rattle.pg_stream.specs.Inside.{draw_cell, IsOwnerAbove, column_end, reach, open_part, open_line, cell_items, open_separator_part, open_separator}
 use Rattle.pg_stream.proofs.draw.OpenLists.{slots-at}
 use Rattle.pg_stream.proofs.draw.Steps.{open_value}
 use Rattle.pg_stream.proofs.printer.WholePictures.{at_range}
 use Rattle.pg_layout.specs.Text.{greatest, Text}
 use Rattle.pg_layout.proofs.TextLines.{greatest-reaches}
-use Rattle.pg_stream.specs.Inside.StreamedTable.{column_end, reach, open_part, open_line, cell_items, open_separator_part, open_separator}
-use Rattle.pg_config.specs.Inside.Lines.{SameForRows}
+use Rattle.pg_config.specs.Inside.{SameForRows}
 use Rattle.pg_config.proofs.EqualLines.{rows_stay}
 use Rattle.pg_picture.specs.Pieces.{Item}
 use Rattle.pg_picture.proofs.Ranges.{range-more}
-use Rattle.pg_stream.specs.Inside.Slots.{slot_part, slot_line, slot_column, slot_separator_part, slot_separator}
+use Rattle.pg_stream.specs.Inside.{slot_part, slot_line, slot_column, slot_separator_part, slot_separator}
 use Rattle.pg_stream.proofs.printer.RowsOfTables.{other}
 
 -- ---- the open cells are the owners of their columns; so they tell where a line or a separator goes inside a rectangle

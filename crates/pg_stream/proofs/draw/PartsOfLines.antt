@@ -3,21 +3,20 @@ use Rattle.std.proofs.Common.{◌≡◌, ℕ, ◌+◌, ◌-◌, ◌<◌, List, [
 use Rattle.std.specs.List.{range_with_len}
 use Rattle.pg_layout.specs.Text.{Text}
 use Rattle.pg_config.specs.Config.{Config, has_horizontal}
-use Rattle.pg_picture.specs.Inside.Margins.{line_start, line_end}
+use Rattle.pg_picture.specs.Inside.{line_start, line_end, items_after, last_color}
 use Rattle.pg_picture.specs.Pieces.{Piece, written, block, cut, with_cuts, separator_text}
 use Rattle.pg_picture.specs.Table.{Table, vertical, crossing_at, margin_line}
 use Rattle.pg_picture.proofs.PiecesOfLines.{written-append, written-nil}
 use Rattle.pg_picture.proofs.Ranges.{range-more, range-cut}
-use Rattle.pg_stream.specs.Inside.StreamedTable.{open_part, open_line, line_at, open_line_at, open_lines, column_end, reach, cell_items, open_separator_part, open_separator, above_text, below_text, top_text}
+use Rattle.pg_stream.specs.Inside.{open_part, open_line, line_at, open_line_at, open_lines, column_end, reach, cell_items, open_separator_part, open_separator, above_text, below_text, top_text}
 use Rattle.pg_stream.specs.Placed.{Placed, slot_of}
-use Rattle.pg_stream.specs.Inside.OpenCells.{draw_cell}
-use Rattle.pg_stream.specs.Inside.Slots.{slot_block, separator_height}
+use Rattle.pg_stream.specs.Inside.{draw_cell}
+use Rattle.pg_stream.specs.Inside.{slot_block, separator_height}
 use Rattle.pg_layout.specs.Colors.{Color}
 use Rattle.pg_layout.specs.declared.position.Position.{Position}
 use Rattle.pg_layout.specs.Position.{at}
 use Rattle.pg_layout.proofs.TextLines.{greatest-more}
 use Rattle.pg_config.specs.Spans.{Span}
-use Rattle.pg_picture.specs.Inside.Following.{items_after, last_color}
 use Rattle.pg_picture.proofs.Separators.{items_after-append, items_after-one, last_color-append, with_cuts-close}
 use Rattle.std.proofs.lemmas.Bool.Decides.{nat_tests}
 use Rattle.pg_picture.specs.Joined.{continued}

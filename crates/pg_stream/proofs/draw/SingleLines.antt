@@ -16,15 +16,12 @@ use Rattle.pg_stream.specs.Conditions.{HasRoom}
 use Rattle.std.specs.List.{range_with_len}
 use Rattle.pg_layout.specs.Colors.{Color}
 use Rattle.pg_picture.proofs.PiecesOfLines.{written-append}
-use Rattle.pg_stream.specs.Inside.SingleRows.{single_part, single_line}
+use Rattle.pg_stream.specs.Inside.{single_part, single_line, open_part, open_line, line_at, open_lines, open_line_at, draw_cell, slot_block}
 use Rattle.pg_stream.proofs.draw.PartsOfLines.{written-columns_cut, drawn-none, lines-none, lines-more, line-now}
 use Rattle.std.proofs.lemmas.List.{length-map}
-use Rattle.pg_stream.specs.Inside.StreamedTable.{open_part, open_line, line_at, open_lines, open_line_at}
 use Rattle.pg_stream.specs.Open.{Slot, open_at_row, open_before}
 use Rattle.pg_stream.specs.Placed.{Placed, slot_of, slots_of}
-use Rattle.pg_stream.specs.Inside.OpenCells.{draw_cell}
-use Rattle.pg_stream.specs.Inside.Slots.{slot_block}
-use Rattle.pg_stream.specs.Inside.Turns.{new_cell, begin_cell, close_cell, mapped, cells_begun, cells_closed}
+use Rattle.pg_stream.specs.Inside.{new_cell, begin_cell, close_cell, mapped, cells_begun, cells_closed}
 use Rattle.pg_stream.proofs.draw.OpenLists.{drawn-at, partly-all, partly-below}
 use Rattle.pg_stream.proofs.draw.OwnersOfCells.{columns-same}
 use Rattle.pg_stream.proofs.draw.Steps.{open_none}

@@ -10,7 +10,7 @@ use Rattle.pg_config.specs.Spans.{rect_rows, owner}
 use Rattle.pg_picture.specs.Table.{Table}
 use Rattle.pg_picture.proofs.Owners.{HasOwners}
 use Rattle.pg_stream.specs.Open.{Slot, drawn_before, open_at_row}
-use Rattle.pg_stream.specs.Inside.Slots.{begin_at, separator_height, next_slot}
+use Rattle.pg_stream.specs.Inside.{begin_at, separator_height, next_slot}
 use Rattle.pg_stream.proofs.DrawnLines.{drawn-first, drawn-more, length_of_row}
 use Rattle.std.specs.List.{range_with_len}
 use Rattle.std.proofs.lemmas.List.Elements.{filter-append}

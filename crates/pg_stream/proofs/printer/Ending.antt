@@ -25,12 +25,12 @@ use Rattle.pg_layout.specs.Position.{at}
 use Rattle.pg_layout.specs.Text.{Text}
 use Rattle.pg_config.specs.Spans.{Span, rect_rows, owner}
 use Rattle.pg_picture.specs.Joined.{continued}
-use Rattle.pg_picture.specs.Inside.Following.{lines_before}
+use Rattle.pg_picture.specs.Inside.{lines_before}
 use Rattle.pg_picture.specs.Pieces.{written, separator_text, Item}
 use Rattle.pg_picture.specs.Picture.{bottom_lines, body_lines}
 use Rattle.pg_picture.proofs.Pictures.{length-body_lines, continued-nil, continued-append, continued-any, none-of-two, flat_map-same}
 use Rattle.pg_picture.proofs.Owners.{owner-own, owner-ends}
-use Rattle.pg_stream.specs.Inside.StreamedTable.{reach, open_separator_part, open_separator, below_text, IsSeparator}
+use Rattle.pg_stream.specs.Inside.{reach, open_separator_part, open_separator, below_text, IsSeparator}
 use Rattle.pg_stream.proofs.draw.OpenLists.{all-open}
 use Rattle.pg_stream.proofs.draw.OwnersOfCells.{columns-same, reaching}
 use Rattle.pg_stream.proofs.printer.RowsOfTables.{KnowsHeight, below-mark, other}

@@ -17,8 +17,7 @@ use Rattle.pg_picture.proofs.OwnersOfPlaces.{InOrder}
 use Rattle.pg_stream.specs.Conditions.{HasRoom, PrinterFits, rows_misfit, printer_misfit}
 use Rattle.pg_stream.proofs.draw.OpenLists.{width-some, height-some}
 use Rattle.pg_layout.specs.Position.{at, is_at}
-use Rattle.pg_picture.specs.Inside.Rectangles.{columns_or_one}
-use Rattle.pg_picture.specs.Inside.Walks.{first_failed, row_places}
+use Rattle.pg_picture.specs.Inside.{columns_or_one, first_failed, row_places}
 use Rattle.pg_picture.proofs.FirstPlaces.{next_places, step-inside, step-other}
 use Rattle.pg_stream.specs.ShownRows.{row_cell_shows_all, unshown_in_row}
 use Rattle.std.specs.Result.{result_err}

@@ -18,14 +18,11 @@ use Rattle.pg_picture.specs.Table.{Table, Hint, mark_text, table_body}
 use Rattle.pg_picture.proofs.Pictures.{body_lines-append, length-body_lines, continued-append, length-top}
 use Rattle.pg_picture.proofs.Owners.{Apart, owner-ends}
 use Rattle.pg_stream.specs.Conditions.{HaveRoom}
-use Rattle.pg_stream.specs.Inside.StreamedTable.{open_lines, open_line, open_separator, above_text, top_text}
+use Rattle.pg_stream.specs.Inside.{open_lines, open_line, open_separator, above_text, top_text, draw_cell, separator_height, slot_line, slot_separator, close_cell, cells_closed}
 use Rattle.pg_stream.specs.Open.{Slot, open_before}
 use Rattle.pg_stream.specs.Placed.{Placed, slots_of, AllOpen, IsPlaced}
-use Rattle.pg_stream.specs.Inside.OpenCells.{draw_cell}
 use Rattle.pg_stream.specs.Printers.{IsSound}
 use Rattle.pg_stream.specs.Printing.{Printing, hint_of, rows_known, rows_reached, text_known, table_known, lines_at, lines_printed, row_lines, row_text, after_row}
-use Rattle.pg_stream.specs.Inside.Slots.{separator_height, slot_line, slot_separator}
-use Rattle.pg_stream.specs.Inside.Turns.{close_cell, cells_closed}
 use Rattle.pg_stream.proofs.draw.OpenLists.{closed-is, drawn-all, all-open, one-open, partly-all, partly-length, partly-below}
 use Rattle.pg_stream.proofs.DrawnLines.{length_of_row}
 use Rattle.pg_stream.proofs.draw.OwnersOfCells.{open_line-slots, open_separator-slots}

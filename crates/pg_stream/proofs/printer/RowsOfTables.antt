@@ -14,7 +14,7 @@ use Rattle.pg_picture.specs.Pieces.{Item, block, written, separator_text}
 use Rattle.pg_picture.specs.Table.{Table, rect_marks, rect_height, rect_width, block_at, row_part, line_of_row, is_inside, vertical, separator_part, separator_items, column_items, crossing, is_covered, horizontal_items, Hint, Known, Unknown, crossing_at, border_glyph, is_blank_at, side_margin, mark_text, body_line, table_body, margin_lines, full_width, total_width, side_margin_at, margin_line}
 use Rattle.pg_layout.specs.declared.sides.Offset.{Offset}
 use Rattle.pg_layout.specs.declared.sides.Offset.TheVariants.{Start, End}
-use Rattle.pg_config.specs.Inside.Lines.{SameForRows}
+use Rattle.pg_config.specs.Inside.{SameForRows}
 use Rattle.pg_config.proofs.EqualLines.{rows_stay}
 use Rattle.pg_picture.specs.Picture.{top_lines, body_lines}
 use Rattle.pg_picture.proofs.MarksOfRectangles.{rows_from, marks_above-add, marks_within-rows}
@@ -24,11 +24,10 @@ use Rattle.pg_stream.specs.Printing.{row_end, rows_reached, lines_at}
 use Rattle.pg_layout.specs.declared.sides.Indent.{Indent}
 use Rattle.pg_layout.specs.Colors.{Color}
 use Rattle.pg_picture.specs.Joined.{continued}
-use Rattle.pg_picture.specs.Inside.Following.{feed_before}
+use Rattle.pg_picture.specs.Inside.{feed_before}
 use Rattle.pg_picture.proofs.Pictures.{body_lines-nil, continued-nil, continued-append, continued-line, none-of-two}
-use Rattle.pg_stream.specs.Inside.StreamedTable.{open_line, line_at, open_line_at, open_lines, above_text, below_text, top_text, open_separator}
+use Rattle.pg_stream.specs.Inside.{open_line, line_at, open_line_at, open_lines, above_text, below_text, top_text, open_separator, draw_cell}
 use Rattle.pg_stream.specs.Placed.{Placed}
-use Rattle.pg_stream.specs.Inside.OpenCells.{draw_cell}
 use Rattle.pg_stream.proofs.draw.PartsOfLines.{above-absent, above-there, below-absent, below-there}
 
 -- ---- a row, and the separator above it, ask only the texts of their owners

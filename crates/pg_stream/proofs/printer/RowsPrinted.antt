@@ -19,10 +19,8 @@ use Rattle.pg_picture.specs.Sizes.{height_of_rect}
 use Rattle.pg_picture.proofs.Owners.{Apart, HasOwners, apart_from, owners_of}
 use Rattle.pg_stream.specs.Conditions.{HaveRoom}
 use Rattle.pg_stream.specs.Placed.{Placed, slots_of, AllOpen, IsPlaced}
-use Rattle.pg_stream.specs.Inside.OpenCells.{draw_cell, IsTall, AreDrawn}
+use Rattle.pg_stream.specs.Inside.{draw_cell, IsTall, AreDrawn, separator_height, IsOwnerAbove, new_cell, begin_cell, cells_begun}
 use Rattle.pg_stream.specs.Printers.{IsSound}
-use Rattle.pg_stream.specs.Inside.Slots.{separator_height}
-use Rattle.pg_stream.specs.Inside.Turns.{IsOwnerAbove, new_cell, begin_cell, cells_begun}
 use Rattle.pg_stream.proofs.draw.Beginning.{begun-is, inside-columns, owner-begun}
 use Rattle.pg_stream.proofs.draw.OpenLists.{placed-new, drawn-at, drawn-all, all-open, partly, partly-all, partly-length, partly-below}
 use Rattle.pg_stream.proofs.DrawnLines.{drawn-first, drawn-more}

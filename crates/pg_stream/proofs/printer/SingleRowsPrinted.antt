@@ -4,12 +4,10 @@ use Rattle.pg_layout.specs.Text.{Text}
 use Rattle.pg_picture.specs.Fits.{spans_fit}
 use Rattle.pg_picture.specs.Pieces.{written}
 use Rattle.pg_picture.specs.Table.{Table}
-use Rattle.pg_stream.specs.Inside.StreamedTable.{line_at, above_text, top_text}
+use Rattle.pg_stream.specs.Inside.{line_at, above_text, top_text, single_line, separator_height}
 use Rattle.pg_stream.specs.Placed.{Placed, slots_of}
 use Rattle.pg_stream.specs.Printers.{IsSound}
 use Rattle.pg_stream.specs.Printing.{Printing, table_known, row_text}
-use Rattle.pg_stream.specs.Inside.SingleRows.{single_line}
-use Rattle.pg_stream.specs.Inside.Slots.{separator_height}
 use Rattle.pg_stream.proofs.printer.RowsAppended.{row_text-is, cells_left}
 use Rattle.pg_stream.proofs.printer.RowsPrinted.{slots-are, cells_above, whole-above}
 use Rattle.pg_stream.proofs.draw.SingleLines.{none-above, lines-are, left-as-above}

@@ -3,8 +3,7 @@
 ghost use Rattle.std.specs.Prelude.{◌≡◌, ◌<◌, map, OnOk};
 ghost use Rattle.pg_picture.specs.Appending.{Appends};
 ghost use Rattle.pg_picture.specs.Pieces.{written};
-ghost use Rattle.pg_stream.specs.Inside.StreamedTable.{open_part, open_line, line_at, open_lines};
-ghost use Rattle.pg_stream.specs.Inside.OpenCells.{draw_cell, MayDraw};
+ghost use Rattle.pg_stream.specs.Inside.{open_part, open_line, line_at, open_lines, draw_cell, MayDraw};
 
 use crate::draw::{OpenCells, OpenLine, StreamedTable};
 use pg_layout::{Colors, Dimension, Position};

@@ -3,7 +3,7 @@
 ghost use Rattle.std.specs.Prelude.{◌≡◌, ◌+◌, ◌≤◌, ◌<◌, ◌^◌, length, is_some};
 ghost use Rattle.pg_layout.specs.LineCursor.{StandsIn, line_number};
 ghost use Rattle.pg_layout.specs.Text.{lines_of};
-ghost use Rattle.pg_picture.specs.Inside.Cells.{text_line_at, line_if};
+ghost use Rattle.pg_picture.specs.Inside.{text_line_at, line_if};
 ghost use Rattle.pg_stream.specs.Placed.{Placed};
 
 use pg_layout::LineCursor;
@@ -40,7 +40,7 @@ impl<S: AsStr + Drop> Drop for OpenCell<S> {
 
 impl<S: AsStr> Model for OpenCell<S> {
     ghost use Rattle.pg_stream.specs.Placed.{Placed};
-    ghost use Rattle.pg_stream.specs.Inside.OpenCells.{StandsAtNext};
+    ghost use Rattle.pg_stream.specs.Inside.{StandsAtNext};
 
     ghost Value = { Placed };
 

@@ -2,7 +2,7 @@
 
 ghost use Rattle.std.specs.Prelude.{◌≡◌, ◌+◌, ◌<◌, ◌≤◌, ◌^◌, length, map, count_by, is_some, IfSome, replicate, slice_index_or, slice_set, option_map, IfOk, Some, None};
 ghost use Rattle.pg_stream.specs.Placed.{slots_of, AllOpen};
-ghost use Rattle.pg_stream.specs.Inside.OpenCells.{draw_cell};
+ghost use Rattle.pg_stream.specs.Inside.{draw_cell};
 
 use crate::draw::OpenCell;
 use std::alloc::{AllocError, Allocator, Global};

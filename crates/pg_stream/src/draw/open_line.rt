@@ -3,8 +3,7 @@
 ghost use Rattle.std.specs.Prelude.{◌≡◌, slice_index_or, None, Some};
 ghost use Rattle.pg_picture.specs.Appending.{Appends};
 ghost use Rattle.pg_picture.specs.Pieces.{written};
-ghost use Rattle.pg_stream.specs.Inside.OpenCells.{AreDrawn};
-ghost use Rattle.pg_stream.specs.Inside.Slots.{slot_block};
+ghost use Rattle.pg_stream.specs.Inside.{AreDrawn, slot_block};
 ghost use Rattle.pg_stream.specs.Placed.{slot_of};
 ghost use Rattle.std.proofs.Props.{props};
 

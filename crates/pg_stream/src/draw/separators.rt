@@ -6,11 +6,9 @@ ghost use Rattle.pg_config.specs.Spans.{rect_columns};
 ghost use Rattle.pg_layout.specs.Position.{at};
 ghost use Rattle.pg_picture.specs.Appending.{Appends};
 ghost use Rattle.pg_picture.specs.Pieces.{separator_text};
-ghost use Rattle.pg_picture.specs.Inside.Following.{items_after, last_color};
-ghost use Rattle.pg_stream.specs.Inside.StreamedTable.{column_end, reach, cell_items, open_separator_part, open_separator, above_text, below_text, IsSeparator, IsBetween, MaySeparate};
+ghost use Rattle.pg_picture.specs.Inside.{items_after, last_color};
+ghost use Rattle.pg_stream.specs.Inside.{column_end, reach, cell_items, open_separator_part, open_separator, above_text, below_text, IsSeparator, IsBetween, MaySeparate, draw_cell, separator_height};
 ghost use Rattle.pg_stream.specs.Placed.{AllOpen};
-ghost use Rattle.pg_stream.specs.Inside.OpenCells.{draw_cell};
-ghost use Rattle.pg_stream.specs.Inside.Slots.{separator_height};
 
 use crate::draw::{OpenCells, OpenLine, StreamedTable};
 use pg_layout::{ANSIBuf, Colors, Dimension, Position};

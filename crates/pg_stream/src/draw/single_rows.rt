@@ -4,11 +4,10 @@ ghost use Rattle.std.specs.Prelude.{◌≡◌, List};
 ghost use Rattle.pg_layout.specs.Records.{AlwaysGives, Gives};
 ghost use Rattle.pg_layout.specs.Text.{Text};
 ghost use Rattle.pg_picture.specs.Appending.{Appends};
-ghost use Rattle.pg_picture.specs.Inside.Cells.{IsOfKind};
+ghost use Rattle.pg_picture.specs.Inside.{IsOfKind};
 ghost use Rattle.pg_picture.specs.Pieces.{written};
 ghost use Rattle.pg_stream.specs.Conditions.{HasRoom};
-ghost use Rattle.pg_stream.specs.Inside.StreamedTable.{line_at};
-ghost use Rattle.pg_stream.specs.Inside.SingleRows.{IsSingle, IsSingleRow, single_part, single_line};
+ghost use Rattle.pg_stream.specs.Inside.{line_at, IsSingle, IsSingleRow, single_part, single_line};
 
 use crate::draw::StreamedTable;
 use pg_layout::{Colors, Dimension, Position};

@@ -3,8 +3,7 @@
 ghost use Rattle.std.specs.Prelude.{◌≡◌, ⊤};
 ghost use Rattle.pg_config.specs.Spans.{rect_rows, rect_columns};
 ghost use Rattle.pg_picture.specs.Appending.{Appends};
-ghost use Rattle.pg_stream.specs.Inside.StreamedTable.{top_text};
-ghost use Rattle.pg_stream.specs.Inside.Turns.{MayBegin, new_cell};
+ghost use Rattle.pg_stream.specs.Inside.{top_text, MayBegin, new_cell};
 
 use crate::draw::OpenCell;
 use pg_layout::{Colors, Dimension, Position};

@@ -8,9 +8,8 @@ ghost use Rattle.pg_layout.specs.Records.{AlwaysGives};
 ghost use Rattle.pg_layout.specs.Text.{Text};
 ghost use Rattle.pg_picture.specs.Fits.{spans_fit_columns};
 ghost use Rattle.pg_stream.specs.Conditions.{HaveRoom};
-ghost use Rattle.pg_stream.specs.Inside.StreamedTable.{column_end};
+ghost use Rattle.pg_stream.specs.Inside.{column_end, IsOwnerAbove, MayBegin, begin_cell, cells_begun, is_done, close_cell, cells_closed};
 ghost use Rattle.pg_stream.specs.Placed.{AllOpen};
-ghost use Rattle.pg_stream.specs.Inside.Turns.{IsOwnerAbove, MayBegin, begin_cell, cells_begun, is_done, close_cell, cells_closed};
 
 use crate::draw::{OpenCells, StreamedTable};
 use pg_layout::{Colors, Dimension, Position};

@@ -1,7 +1,7 @@
 //! What a printer is made of: the table's configuration, its sizes and its colours.
 
 ghost use Rattle.std.specs.Prelude.{◌↔◌, IsTrue};
-ghost use Rattle.pg_stream.specs.Inside.SingleRows.{IsSingle};
+ghost use Rattle.pg_stream.specs.Inside.{IsSingle};
 
 use pg_layout::{Colors, Dimension};
 use pg_picture::Sheet;
@@ -16,7 +16,7 @@ pub(crate) struct Frame<'a, D, C, B: Allocator = Global> {
 }
 
 impl<'a, D: Dimension, C: Colors, B: Allocator> Frame<'a, D, C, B> {
-    ghost use Rattle.pg_picture.specs.Inside.Sheets.{bare_table};
+    ghost use Rattle.pg_picture.specs.Inside.{bare_table};
 
     // Whether the cells of a row are drawn as they come, and never open.
     #[inline(always)]

@@ -6,11 +6,10 @@ ghost use Rattle.pg_layout.specs.Records.{AlwaysGives, Gives};
 ghost use Rattle.pg_layout.specs.Text.{Text};
 ghost use Rattle.pg_picture.specs.Appending.{Appends};
 ghost use Rattle.pg_stream.specs.Conditions.{AreRowsFrom, RowFits, RowsFit};
-ghost use Rattle.pg_stream.specs.Inside.Held.{IsSoundAt};
-ghost use Rattle.pg_stream.specs.Inside.SingleRows.{AreOfKind};
+ghost use Rattle.pg_stream.specs.Inside.{IsSoundAt, AreOfKind};
 ghost use Rattle.pg_stream.specs.Printers.{now_of};
 ghost use Rattle.pg_stream.specs.Printing.{row_text, rows_text, finish_text, after_row};
-ghost use Rattle.pg_picture.specs.Inside.Sheets.{bare_table};
+ghost use Rattle.pg_picture.specs.Inside.{bare_table};
 ghost use Rattle.pg_stream.specs.Streams.{AppendsIf};
 
 use crate::draw::{OpenCells, OpenLine, StreamedTable};

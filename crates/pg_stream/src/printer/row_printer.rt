@@ -7,9 +7,9 @@ ghost use Rattle.std.specs.Iterator.{IsFinite};
 ghost use Rattle.pg_layout.specs.Records.{AlwaysGives};
 ghost use Rattle.pg_layout.specs.Text.{Text};
 ghost use Rattle.pg_picture.specs.Appending.{Appends};
-ghost use Rattle.pg_picture.specs.Inside.Sheets.{bare_table};
+ghost use Rattle.pg_picture.specs.Inside.{bare_table};
 ghost use Rattle.pg_stream.specs.Conditions.{PrinterFits, RowFits};
-ghost use Rattle.pg_stream.specs.Inside.Held.{IsSoundAt};
+ghost use Rattle.pg_stream.specs.Inside.{IsSoundAt};
 ghost use Rattle.pg_stream.specs.Placed.{slots_of};
 ghost use Rattle.pg_stream.specs.Printers.{printer_of, printing};
 ghost use Rattle.pg_stream.specs.Printing.{printer, row_text, finish_text, after_row};
@@ -63,9 +63,9 @@ impl<'a, S: AsStr + Drop, D: Dimension, C: Colors, B: Allocator, A: Allocator> D
 
 impl<'a, S: AsStr, D: Dimension, C: Colors, B: Allocator, A: Allocator> Model
     for RowPrinter<'a, S, D, C, B, A> {
-    ghost use Rattle.pg_stream.specs.Inside.Held.{IsSoundAt};
+    ghost use Rattle.pg_stream.specs.Inside.{IsSoundAt};
     ghost use Rattle.pg_stream.specs.Printers.{Printer, printer_of};
-    ghost use Rattle.pg_picture.specs.Inside.Sheets.{bare_table};
+    ghost use Rattle.pg_picture.specs.Inside.{bare_table};
 
     ghost Value = { Printer D C };
 

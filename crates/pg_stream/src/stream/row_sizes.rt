@@ -1,6 +1,6 @@
 //! Sizes of a table whose rows bring their heights: the widths, and the height of one row.
 
-ghost use Rattle.pg_stream.specs.Inside.Sized.{height_in};
+ghost use Rattle.pg_stream.specs.Inside.{height_in};
 
 use pg_layout::Dimension;
 

@@ -64,8 +64,8 @@ impl<'a, S: AsStr + Drop, D: Dimension, C: Colors, B: Allocator, A: Allocator, V
 impl<'a, S: AsStr, D: Dimension, C: Colors, B: Allocator, A: Allocator, V: Allocator> Model
     for RowStream<'a, S, D, C, B, A, V> {
     ghost use Rattle.std.specs.Prelude.{map, option_map};
-    ghost use Rattle.pg_stream.specs.Inside.Held.{AreSoundAt};
-    ghost use Rattle.pg_picture.specs.Inside.Sheets.{bare_table};
+    ghost use Rattle.pg_stream.specs.Inside.{AreSoundAt};
+    ghost use Rattle.pg_picture.specs.Inside.{bare_table};
     ghost use Rattle.pg_stream.specs.Printers.{printer_of};
     ghost use Rattle.pg_stream.specs.Streams.{Stream};
 

@@ -1,5 +1,5 @@
 use Rattle.std.proofs.Common.{◌≡◌, []}
-use Rattle.pg_config.specs.Inside.CrossingMarks.{with_glyphs}
+use Rattle.pg_config.specs.Inside.{with_glyphs}
 use Rattle.pg_config.proofs.crossings.glyphs_of.Given as goal
 
 -- what is left is told by the marks that are left

@@ -1,5 +1,5 @@
 use Rattle.std.proofs.Common.{◌≡◌, Some}
-use Rattle.pg_config.specs.Inside.CrossingMarks.{with_line}
+use Rattle.pg_config.specs.Inside.{with_line}
 use Rattle.pg_config.proofs.crossings.mark_line.Given as goal
 
 abbrev pub invariant-loop-step : goal.invariant-loop-step

@@ -1,5 +1,5 @@
 use Rattle.std.proofs.Common.{◌≡◌, []}
-use Rattle.pg_config.specs.Inside.CrossingMarks.{with_spans}
+use Rattle.pg_config.specs.Inside.{with_spans}
 use Rattle.pg_config.proofs.crossings.marks_of.Given as goal
 
 -- what is left is told by the spans that are left

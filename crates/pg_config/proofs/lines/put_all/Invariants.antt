@@ -1,5 +1,5 @@
 use Rattle.std.proofs.Common.{◌≡◌, []}
-use Rattle.pg_config.specs.Inside.CrossingMarks.{with_all}
+use Rattle.pg_config.specs.Inside.{with_all}
 use Rattle.pg_config.specs.Overrides.{HasColumns}
 use Rattle.pg_config.proofs.lines.put_all.Given as goal
 

@@ -2,7 +2,7 @@ use Rattle.std.proofs.Common.{◌≡◌, ℕ, unwrap_or, refl, sym, ap₂, ◌�
 use Rattle.pg_layout.specs.Colors.{lent_color}
 use Rattle.pg_config.specs.Offsets.{lookup_offset}
 use Rattle.pg_picture.specs.Pieces.{Item, glyph}
-use Rattle.pg_picture.specs.Inside.Following.{items_after, last_color}
+use Rattle.pg_picture.specs.Inside.{items_after, last_color}
 use Rattle.pg_picture.specs.Table.{border_glyph}
 use Rattle.pg_picture.proofs.Appending.{Gained-none, Gained-more, Gained-text, refused}
 use Rattle.pg_picture.proofs.Separators.{items_after-more, last_color-more, items_after-cut}

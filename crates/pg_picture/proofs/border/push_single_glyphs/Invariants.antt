@@ -2,7 +2,7 @@ use Rattle.std.proofs.Common.{◌≡◌, map}
 use Rattle.std.specs.List.{range_with_len}
 use Rattle.pg_layout.specs.Colors.{lent_color}
 use Rattle.pg_picture.proofs.Appending.{Gained}
-use Rattle.pg_picture.specs.Inside.Following.{items_after, last_color}
+use Rattle.pg_picture.specs.Inside.{items_after, last_color}
 use Rattle.pg_picture.specs.Table.{border_glyph}
 use Rattle.pg_picture.proofs.border.push_single_glyphs.Given as goal
 

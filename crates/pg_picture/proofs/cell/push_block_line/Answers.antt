@@ -2,7 +2,7 @@ use Rattle.std.proofs.Common.{ap, ◌∙◌, arith}
 use Rattle.std.proofs.lemmas.List.Sums.{count_by-le-length}
 use Rattle.pg_layout.proofs.TextLines.{is_feed, length-lines_of}
 use Rattle.pg_picture.specs.Pieces.{written}
-use Rattle.pg_picture.specs.Inside.Cells.{style_of, line_if}
+use Rattle.pg_picture.specs.Inside.{style_of, line_if}
 use Rattle.pg_picture.proofs.Appending.{Appends-text}
 use Rattle.pg_picture.proofs.PlacesOfTexts.{place-lines, text_line_at-within, room-of-line, block_line-at}
 use Rattle.pg_picture.proofs.cell.push_block_line.Goals as goal

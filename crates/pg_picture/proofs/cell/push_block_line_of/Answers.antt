@@ -1,6 +1,6 @@
 use Rattle.std.proofs.Common.{ap, arith}
 use Rattle.pg_picture.specs.Pieces.{written}
-use Rattle.pg_picture.specs.Inside.Cells.{style_of}
+use Rattle.pg_picture.specs.Inside.{style_of}
 use Rattle.pg_picture.proofs.Appending.{Appends-text}
 use Rattle.pg_picture.proofs.PlacesOfTexts.{placed_line-top, placed_line-text, placed_line-bottom}
 use Rattle.pg_picture.proofs.cell.push_block_line_of.Goals as goal

@@ -1,4 +1,4 @@
-use Rattle.pg_picture.specs.Inside.Cells.{style_of}
+use Rattle.pg_picture.specs.Inside.{style_of}
 use Rattle.pg_picture.proofs.Appending.{Appends-text}
 use Rattle.pg_picture.proofs.PlacesOfTexts.{line_parts-measured}
 use Rattle.pg_picture.proofs.cell.push_line_of_width.Goals as goal

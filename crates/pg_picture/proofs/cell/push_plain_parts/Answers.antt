@@ -1,4 +1,4 @@
-use Rattle.pg_picture.specs.Inside.Cells.{style_of}
+use Rattle.pg_picture.specs.Inside.{style_of}
 use Rattle.pg_picture.proofs.Appending.{Appends-text, ◌then◌, stopped}
 use Rattle.pg_picture.proofs.PiecesOfLines.{plain-line}
 use Rattle.pg_picture.proofs.cell.push_plain_parts.Goals as goal

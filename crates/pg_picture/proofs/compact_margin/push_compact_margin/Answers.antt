@@ -1,5 +1,5 @@
 use Rattle.std.proofs.Common.{◌≡◌, ◌+◌, ◌==◌, sym, ◌∙◌, inl, inr, arith}
-use Rattle.pg_picture.specs.Inside.Following.{lines_before}
+use Rattle.pg_picture.specs.Inside.{lines_before}
 use Rattle.pg_picture.proofs.Appending.{Gained-none, Gained-more, Gained-text, refused}
 use Rattle.pg_picture.proofs.Pictures.{continued-nil, continued-more, continued-cut, first-of}
 use Rattle.pg_picture.proofs.compact_margin.push_compact_margin.Goals as goal

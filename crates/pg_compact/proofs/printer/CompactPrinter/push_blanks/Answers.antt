@@ -2,7 +2,7 @@ use Rattle.std.proofs.Common.{ℕ, [], sym, arith}
 use Rattle.pg_layout.specs.Colors.{str_color}
 use Rattle.pg_layout.specs.Text.{Text}
 use Rattle.pg_picture.proofs.Appending.{Gained-text, Gained-more, refused}
-use Rattle.pg_compact.specs.Inside.PrintedTable.{printed_table, padding_column}
+use Rattle.pg_compact.specs.Inside.{printed_table, padding_column}
 use Rattle.pg_compact.proofs.CompactRows.{columns-more, columns-cut}
 use Rattle.pg_compact.proofs.printer.CompactPrinter.push_blanks.Goals as goal
 

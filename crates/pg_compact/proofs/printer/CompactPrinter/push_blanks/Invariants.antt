@@ -2,7 +2,7 @@ use Rattle.std.proofs.Common.{flat_map, []}
 use Rattle.std.specs.List.{range_with_len}
 use Rattle.pg_layout.specs.Colors.{str_color}
 use Rattle.pg_picture.proofs.Appending.{Gained}
-use Rattle.pg_compact.specs.Inside.PrintedTable.{printed_table, padding_column}
+use Rattle.pg_compact.specs.Inside.{printed_table, padding_column}
 use Rattle.pg_compact.proofs.printer.CompactPrinter.push_blanks.Given as goal
 
 -- the columns so far

@@ -2,7 +2,7 @@ use Rattle.std.proofs.Common.{◌≡◌, ◌<◌, ℕ, [], slice_index_or, lengt
 use Rattle.std.specs.List.{range_with_len}
 use Rattle.pg_layout.specs.Text.{Text}
 use Rattle.pg_picture.proofs.Appending.{Appends-text, Gained-none, Gained-all, Gained-text, Gained-more, refused}
-use Rattle.pg_compact.specs.Inside.PrintedTable.{printed_table, text_column}
+use Rattle.pg_compact.specs.Inside.{printed_table, text_column}
 use Rattle.pg_compact.proofs.CompactRows.{columns-more, columns-cut, cell-column, next-taken, none-ended}
 use Rattle.pg_compact.proofs.printer.CompactPrinter.push_cells.Goals as goal
 

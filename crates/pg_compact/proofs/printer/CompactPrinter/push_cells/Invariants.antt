@@ -3,7 +3,7 @@ use Rattle.std.specs.List.{range_with_len}
 use Rattle.pg_layout.specs.Records.{AlwaysGives}
 use Rattle.pg_layout.specs.Text.{Text}
 use Rattle.pg_picture.proofs.Appending.{Gained}
-use Rattle.pg_compact.specs.Inside.PrintedTable.{IsRow, printed_table, text_column}
+use Rattle.pg_compact.specs.Inside.{IsRow, printed_table, text_column}
 use Rattle.pg_compact.proofs.printer.CompactPrinter.push_cells.Given as goal
 
 -- the columns so far, and the cells that are left

@@ -1,9 +1,9 @@
 use Rattle.std.proofs.Common.{[], refl}
 use Rattle.pg_picture.specs.CompactLines.{part_if, main_part}
-use Rattle.pg_picture.specs.Inside.Following.{open_parts, open_color}
+use Rattle.pg_picture.specs.Inside.{open_parts, open_color}
 use Rattle.pg_picture.proofs.Appending.{Appends-text, ◌then◌, stopped}
 use Rattle.pg_picture.proofs.Separators.{IfOk-same}
-use Rattle.pg_compact.specs.Inside.PrintedTable.{printed_table, line_colors}
+use Rattle.pg_compact.specs.Inside.{printed_table, line_colors}
 use Rattle.pg_compact.proofs.CompactRows.{open_parts-two, open_color-two, column-parts}
 use Rattle.pg_compact.proofs.printer.CompactPrinter.push_column.Goals as goal
 

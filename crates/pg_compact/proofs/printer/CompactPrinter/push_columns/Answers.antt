@@ -1,8 +1,8 @@
 use Rattle.std.proofs.Common.{ℕ, List, [], refl, ◌∙◌, arith}
 use Rattle.pg_picture.specs.CompactLines.{Part}
-use Rattle.pg_picture.specs.Inside.Following.{open_parts, open_color}
+use Rattle.pg_picture.specs.Inside.{open_parts, open_color}
 use Rattle.pg_picture.proofs.Appending.{Gained-none, Gained-text, Gained-more, refused}
-use Rattle.pg_compact.specs.Inside.PrintedTable.{printed_table, line_colors, column_parts}
+use Rattle.pg_compact.specs.Inside.{printed_table, line_colors, column_parts}
 use Rattle.pg_compact.proofs.CompactRows.{open_parts-columns, open_color-columns, open_parts-columns_cut}
 use Rattle.pg_compact.proofs.printer.CompactPrinter.push_columns.Goals as goal
 

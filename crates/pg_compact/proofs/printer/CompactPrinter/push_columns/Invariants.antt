@@ -1,8 +1,8 @@
 use Rattle.std.proofs.Common.{◌≡◌, [], flat_map}
 use Rattle.std.specs.List.{range_with_len}
 use Rattle.pg_picture.proofs.Appending.{Gained}
-use Rattle.pg_picture.specs.Inside.Following.{open_parts, open_color}
-use Rattle.pg_compact.specs.Inside.PrintedTable.{printed_table, line_colors, column_parts}
+use Rattle.pg_picture.specs.Inside.{open_parts, open_color}
+use Rattle.pg_compact.specs.Inside.{printed_table, line_colors, column_parts}
 use Rattle.pg_compact.proofs.printer.CompactPrinter.push_columns.Given as goal
 
 -- the columns so far, and the colour that they leave open

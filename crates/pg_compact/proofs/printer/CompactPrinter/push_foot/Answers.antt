@@ -3,9 +3,9 @@ use Rattle.pg_layout.specs.Borders.{has_bottom}
 use Rattle.pg_config.specs.CompactConfig.{side_colors}
 use Rattle.pg_picture.specs.CompactLines.{compact_indent, bottom_line}
 use Rattle.pg_picture.specs.Joined.{continued}
-use Rattle.pg_picture.specs.Inside.Following.{lines_before}
+use Rattle.pg_picture.specs.Inside.{lines_before}
 use Rattle.pg_picture.proofs.Appending.{Appends-text, ◌then◌, stopped}
-use Rattle.pg_compact.specs.Inside.PrintedTable.{line_colors}
+use Rattle.pg_compact.specs.Inside.{line_colors}
 use Rattle.pg_compact.proofs.CompactRows.{foot-text}
 use Rattle.pg_compact.proofs.printer.CompactPrinter.push_foot.Goals as goal
 

@@ -1,7 +1,7 @@
 use Rattle.std.proofs.Common.{[], drop, string_bytes, ap, ap₂, ◌∙◌, arith}
 use Rattle.pg_picture.specs.CompactLines.{separator_row, inner_line}
 use Rattle.pg_picture.proofs.Appending.{Appends-text, text-from, lent-text, kept-text}
-use Rattle.pg_compact.specs.Inside.PrintedTable.{printed_table, IsInnerSeparator, line_colors}
+use Rattle.pg_compact.specs.Inside.{printed_table, IsInnerSeparator, line_colors}
 use Rattle.pg_compact.proofs.printer.CompactPrinter.push_kept_separator.Goals as goal
 
 pub returns-in-Some-clause-appends : goal.returns-in-Some-clause-appends

@@ -3,9 +3,9 @@ use Rattle.std.specs.List.{range_with_len}
 use Rattle.pg_layout.specs.Text.{Text}
 use Rattle.pg_picture.specs.CompactLines.{row_lines}
 use Rattle.pg_picture.specs.Joined.{fed, continued}
-use Rattle.pg_picture.specs.Inside.Following.{lines_before}
+use Rattle.pg_picture.specs.Inside.{lines_before}
 use Rattle.pg_picture.proofs.Appending.{Appends-text, Gained-text, Gained-more, Gained-all, ◌then◌, stopped, refused}
-use Rattle.pg_compact.specs.Inside.PrintedTable.{printed_table, lines_of_row}
+use Rattle.pg_compact.specs.Inside.{printed_table, lines_of_row}
 use Rattle.pg_compact.proofs.CompactRows.{next_row-text, next_rows-more, next_rows-cut, row-taken, rows-ended}
 use Rattle.pg_compact.proofs.printer.CompactPrinter.push_next_rows.Goals as goal
 

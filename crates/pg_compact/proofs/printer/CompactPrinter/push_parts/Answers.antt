@@ -2,9 +2,9 @@ use Rattle.std.proofs.Common.{[], ◌++◌, None, flat_map, refl}
 use Rattle.std.specs.List.{range_with_len}
 use Rattle.pg_picture.specs.Pieces.{cut}
 use Rattle.pg_picture.specs.CompactLines.{part_if}
-use Rattle.pg_picture.specs.Inside.Following.{open_parts, open_color}
+use Rattle.pg_picture.specs.Inside.{open_parts, open_color}
 use Rattle.pg_picture.proofs.Appending.{Appends-text, ◌then◌, stopped}
-use Rattle.pg_compact.specs.Inside.PrintedTable.{printed_table, line_colors, column_parts}
+use Rattle.pg_compact.specs.Inside.{printed_table, line_colors, column_parts}
 use Rattle.pg_compact.proofs.CompactRows.{parts-text}
 use Rattle.pg_compact.proofs.printer.CompactPrinter.push_parts.Goals as goal
 

@@ -2,10 +2,10 @@ use Rattle.std.proofs.Common.{◌≡◌, ◌+◌, ◌==◌, ◌++◌, Bool, fals
 use Rattle.pg_config.specs.CompactConfig.{side_colors}
 use Rattle.pg_picture.specs.CompactLines.{padding_row, text_row}
 use Rattle.pg_picture.specs.Joined.{continued}
-use Rattle.pg_picture.specs.Inside.Following.{feed_before, lines_before}
+use Rattle.pg_picture.specs.Inside.{feed_before, lines_before}
 use Rattle.pg_picture.proofs.Appending.{Appends-text, ◌then◌, stopped}
 use Rattle.pg_picture.proofs.Pictures.{first-of}
-use Rattle.pg_compact.specs.Inside.PrintedTable.{printed_table}
+use Rattle.pg_compact.specs.Inside.{printed_table}
 use Rattle.pg_compact.proofs.CompactRows.{row-text}
 use Rattle.pg_compact.proofs.printer.CompactPrinter.push_row.Goals as goal
 use Rattle.pg_compact.proofs.printer.CompactPrinter.push_row.Goals.{then-is_first, else-is_first}

@@ -2,7 +2,7 @@ use Rattle.std.proofs.Common.{[], ◌++◌, None}
 use Rattle.pg_config.specs.CompactConfig.{side_colors}
 use Rattle.pg_picture.specs.CompactLines.{compact_indent, parts, parts_after}
 use Rattle.pg_picture.proofs.Appending.{Appends-text, ◌then◌, stopped}
-use Rattle.pg_compact.specs.Inside.PrintedTable.{printed_table, line_colors}
+use Rattle.pg_compact.specs.Inside.{printed_table, line_colors}
 use Rattle.pg_compact.proofs.CompactRows.{separator-line}
 use Rattle.pg_compact.proofs.printer.CompactPrinter.push_separator.Goals as goal
 

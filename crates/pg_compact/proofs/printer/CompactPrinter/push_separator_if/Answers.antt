@@ -1,9 +1,9 @@
 use Rattle.std.proofs.Common.{◌≡◌, false, true, [], arith}
 use Rattle.std.proofs.lemmas.Bool.Decides.{nat_tests}
 use Rattle.pg_picture.specs.CompactLines.{separator_row}
-use Rattle.pg_picture.specs.Inside.Following.{lines_before}
+use Rattle.pg_picture.specs.Inside.{lines_before}
 use Rattle.pg_picture.proofs.Appending.{Appends-text, Gained-none, Gained-all, ◌then◌, stopped}
-use Rattle.pg_compact.specs.Inside.PrintedTable.{printed_table, line_colors}
+use Rattle.pg_compact.specs.Inside.{printed_table, line_colors}
 use Rattle.pg_compact.proofs.CompactRows.{separator-absent, separator-there}
 use Rattle.pg_compact.proofs.printer.CompactPrinter.push_separator_if.Goals as goal
 

@@ -2,10 +2,10 @@ use Rattle.std.proofs.Common.{◌<◌, ◌-◌, ◌++◌, [], length, flat_map, 
 use Rattle.std.specs.List.{range_with_len}
 use Rattle.pg_picture.specs.CompactLines.{row_lines}
 use Rattle.pg_picture.specs.Joined.{continued, fed}
-use Rattle.pg_picture.specs.Inside.Following.{lines_before}
+use Rattle.pg_picture.specs.Inside.{lines_before}
 use Rattle.pg_picture.proofs.Appending.{Appends-text, Gained-none, Gained-all, ◌then◌, stopped}
 use Rattle.pg_picture.proofs.FittingTables.{some_is}
-use Rattle.pg_compact.specs.Inside.PrintedTable.{printed_table, lines_of_row, foot_lines}
+use Rattle.pg_compact.specs.Inside.{printed_table, lines_of_row, foot_lines}
 use Rattle.pg_picture.proofs.Ranges.{is_some_answer}
 use Rattle.pg_compact.proofs.CompactRows.{table-text, row-taken, rows-ended}
 use Rattle.pg_compact.proofs.CompactPictures.{no_columns-text, no_rows-text, some-cells, totals-fit, width-answer}

@@ -1,6 +1,6 @@
 use Rattle.pg_picture.specs.CompactLines.{text_row}
 use Rattle.pg_picture.proofs.Appending.{◌then◌, stopped}
-use Rattle.pg_compact.specs.Inside.PrintedTable.{printed_table}
+use Rattle.pg_compact.specs.Inside.{printed_table}
 use Rattle.pg_compact.proofs.printer.CompactPrinter.push_text_line.Goals as goal
 
 pub returns-in_err-push_feed : goal.returns-in_err-push_feed

@@ -2,7 +2,7 @@ use Rattle.std.proofs.Common.{◌≡◌, refl, sym, ap, subst, ◌∙◌, arith}
 use Rattle.std.specs.Prelude.{IsOk, IsSome}
 use Rattle.pg_layout.specs.Places.{value_at, exchanged}
 use Rattle.pg_layout.proofs.KeyedPlaces.{order-laws}
-use Rattle.pg_config.specs.Inside.NotedPlaces.{taken_back, CanTakeBack}
+use Rattle.pg_config.specs.Inside.{taken_back, CanTakeBack}
 use Rattle.pg_config.proofs.Lookups.{taken_back-last, CanTakeBack-more, given_is_there}
 use Rattle.pg_config.proofs.noted_places.NotedPlaces.put.Goals as goal
 

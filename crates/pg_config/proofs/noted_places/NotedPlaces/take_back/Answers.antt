@@ -3,7 +3,7 @@ use Rattle.std.specs.Prelude.{IsOk, IsSome, OnOk}
 use Rattle.std.specs.declared.result.Result.{Result}
 use Rattle.std.specs.declared.result.Result.TheVariants.{Ok, Err}
 use Rattle.std.proofs.lemmas.Bool.{false≢true}
-use Rattle.pg_config.specs.Inside.NotedPlaces.{taken_back, CanTakeBack}
+use Rattle.pg_config.specs.Inside.{taken_back, CanTakeBack}
 use Rattle.pg_config.proofs.Lookups.{taken_back-rest, CanTakeBack-rest}
 use Rattle.pg_config.proofs.noted_places.NotedPlaces.take_back.Goals as goal
 

@@ -1,6 +1,6 @@
 use Rattle.std.proofs.Common.{◌≡◌}
 use Rattle.std.specs.Vec.{vec_len}
-use Rattle.pg_config.specs.Inside.NotedPlaces.{taken_back, CanTakeBack}
+use Rattle.pg_config.specs.Inside.{taken_back, CanTakeBack}
 use Rattle.pg_config.proofs.noted_places.NotedPlaces.take_back.Given as goal
 
 abbrev pub invariant-loop-key : goal.invariant-loop-key

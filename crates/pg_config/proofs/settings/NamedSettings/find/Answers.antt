@@ -1,7 +1,7 @@
 use Rattle.std.proofs.Common.{sym, ap, ◌∙◌}
 use Rattle.pg_layout.specs.Keys.{by_place}
 use Rattle.pg_layout.specs.Places.{value_at}
-use Rattle.pg_config.specs.Inside.NamedSettings.{with_base}
+use Rattle.pg_config.specs.Inside.{with_base}
 use Rattle.pg_config.specs.Settings.{Settings, setting_of}
 use Rattle.pg_config.proofs.settings.NamedSettings.find.Goals as goal
 

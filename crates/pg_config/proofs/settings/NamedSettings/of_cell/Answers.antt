@@ -1,6 +1,6 @@
 use Rattle.std.proofs.Common.{sym, subst, ◌∙◌}
 use Rattle.pg_layout.specs.Places.{Each}
-use Rattle.pg_config.specs.Inside.Extents.{HasCell}
+use Rattle.pg_config.specs.Inside.{HasCell}
 use Rattle.pg_config.specs.Settings.{Settings}
 use Rattle.pg_config.proofs.CoveredPlaces.{no-cell-outside}
 use Rattle.pg_config.proofs.settings.NamedSettings.of_cell.Goals as goal

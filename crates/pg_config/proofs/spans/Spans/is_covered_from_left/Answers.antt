@@ -1,5 +1,5 @@
 use Rattle.std.proofs.Common.{◌≡◌, ◌∙◌, ◌||◌, true, false, sym, ap}
-use Rattle.pg_config.specs.Inside.Covered.{is_covered_from}
+use Rattle.pg_config.specs.Inside.{is_covered_from}
 use Rattle.pg_config.proofs.CoveredPlaces.{is_covered_left_of, next-left, next-is_left, none-left}
 use Rattle.pg_config.proofs.spans.Spans.is_covered_from_left.Goals as goal
 

@@ -1,5 +1,5 @@
 use Rattle.std.proofs.Common.{◌≡◌}
-use Rattle.pg_config.specs.Inside.Covered.{is_covered_from_left}
+use Rattle.pg_config.specs.Inside.{is_covered_from_left}
 use Rattle.pg_config.proofs.CoveredPlaces.{is_covered_left_of}
 use Rattle.pg_config.proofs.spans.Spans.is_covered_from_left.Given as goal
 

@@ -1,6 +1,6 @@
 use Rattle.std.proofs.Common.{◌<◌, ◌^◌, sym, subst, ◌∙◌, arith}
 use Rattle.pg_layout.specs.Places.{Each}
-use Rattle.pg_config.specs.Inside.Extents.{HasSpan}
+use Rattle.pg_config.specs.Inside.{HasSpan}
 use Rattle.pg_config.proofs.CoveredPlaces.{no-left_span-outside}
 use Rattle.pg_config.proofs.spans.Spans.left_span.Goals as goal
 

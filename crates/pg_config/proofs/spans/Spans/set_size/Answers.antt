@@ -1,6 +1,6 @@
 use Rattle.std.proofs.Common.{◌≡◌, arith}
 use Rattle.pg_layout.specs.Keys.{by_columns, column_place}
-use Rattle.pg_config.specs.Inside.Extents.{HasSpan, last_row_of}
+use Rattle.pg_config.specs.Inside.{HasSpan, last_row_of}
 use Rattle.pg_config.proofs.CoveredPlaces.{each-without_place, spans-with_place}
 use Rattle.pg_config.proofs.spans.Spans.set_size.Goals as goal
 

@@ -1,6 +1,6 @@
 use Rattle.std.proofs.Common.{◌<◌, ◌^◌, unwrap_or, sym, ap, subst, ◌∙◌, arith}
 use Rattle.pg_layout.specs.Places.{Each}
-use Rattle.pg_config.specs.Inside.Extents.{HasSpan}
+use Rattle.pg_config.specs.Inside.{HasSpan}
 use Rattle.pg_config.specs.Spans.{span_size, size_of}
 use Rattle.pg_config.proofs.CoveredPlaces.{no-size-outside}
 use Rattle.pg_config.proofs.spans.Spans.size.Goals as goal

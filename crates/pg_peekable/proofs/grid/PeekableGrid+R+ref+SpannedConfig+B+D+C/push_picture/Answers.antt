@@ -4,7 +4,7 @@ use Rattle.pg_layout.specs.declared.sides.Sides.{Sides}
 use Rattle.pg_layout.specs.declared.sides.Indent.{Indent}
 use Rattle.pg_picture.specs.Grids.{table_of_parts}
 use Rattle.pg_picture.specs.Joined.{continued}
-use Rattle.pg_picture.specs.Inside.Following.{lines_before, body_text}
+use Rattle.pg_picture.specs.Inside.{lines_before, body_text}
 use Rattle.pg_picture.specs.Pieces.{written}
 use Rattle.pg_picture.specs.Table.{Known, margin_line, table_body, full_width}
 use Rattle.pg_picture.specs.Fits.{body_height}

@@ -1,6 +1,6 @@
 use Rattle.std.proofs.Common.{drop, string_bytes}
 use Rattle.pg_picture.proofs.Appending.{kept-text}
-use Rattle.pg_peekable.specs.Inside.Kept.{IsSeparator}
+use Rattle.pg_peekable.specs.Inside.{IsSeparator}
 use Rattle.pg_peekable.proofs.kept.KeptCells.keep_separator.Goals as goal
 
 pub invariant_of-self-clause-is_separator : goal.invariant_of-self-clause-is_separator

@@ -1,5 +1,5 @@
 use Rattle.std.proofs.Common.{◌≡◌, ◌+◌, ◌-◌, ℕ, refl, subst, arith}
-use Rattle.pg_picture.specs.Inside.Rectangles.{rows_height}
+use Rattle.pg_picture.specs.Inside.{rows_height}
 use Rattle.pg_peekable.proofs.CanDraw.{lines-more, lines-fit}
 use Rattle.pg_peekable.proofs.looked_up_table.LookedUpTable.lines_above.Goals as goal
 

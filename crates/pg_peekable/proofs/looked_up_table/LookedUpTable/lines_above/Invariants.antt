@@ -1,5 +1,5 @@
 use Rattle.std.proofs.Common.{◌≡◌, ◌-◌}
-use Rattle.pg_picture.specs.Inside.Rectangles.{rows_height}
+use Rattle.pg_picture.specs.Inside.{rows_height}
 use Rattle.pg_peekable.proofs.looked_up_table.LookedUpTable.lines_above.Given as goal
 
 abbrev pub invariant-loop-above : goal.invariant-loop-above

@@ -4,7 +4,7 @@ use Rattle.pg_layout.specs.Position.{at}
 use Rattle.pg_config.specs.Spans.{corner}
 use Rattle.pg_picture.specs.Marks.{sep}
 use Rattle.pg_picture.specs.Pieces.{Piece, block, cut, written}
-use Rattle.pg_picture.specs.Inside.Following.{items_after, last_color}
+use Rattle.pg_picture.specs.Inside.{items_after, last_color}
 use Rattle.pg_picture.specs.Table.{crossing_at, block_at}
 use Rattle.pg_picture.proofs.Appending.{Appends-text, ◌then◌, stopped, refused-as, appended-as}
 use Rattle.pg_picture.proofs.WalksOfRows.{span_above-below}

@@ -2,7 +2,7 @@ use Rattle.std.proofs.Common.{◌≡◌, length}
 use Rattle.pg_picture.proofs.Appending.{Gained}
 use Rattle.pg_picture.specs.Marks.{marks_above}
 use Rattle.pg_picture.specs.Table.{Known}
-use Rattle.pg_picture.specs.Inside.Following.{body_text}
+use Rattle.pg_picture.specs.Inside.{body_text}
 use Rattle.pg_peekable.proofs.looked_up_table.LookedUpTable.push_body.Given as goal
 
 abbrev pub invariant-loop-row : goal.invariant-loop-row

@@ -1,7 +1,7 @@
 use Rattle.std.proofs.Common.{ℕ, ◌++◌, List, refl, sym, ap}
 use Rattle.pg_config.specs.Config.{get_horizontal}
 use Rattle.pg_picture.specs.Pieces.{Item}
-use Rattle.pg_picture.specs.Inside.Following.{items_after, last_color}
+use Rattle.pg_picture.specs.Inside.{items_after, last_color}
 use Rattle.pg_picture.specs.Table.{crossing_at, border_items}
 use Rattle.pg_picture.proofs.Appending.{Appends-text, ◌then◌, stopped}
 use Rattle.pg_picture.proofs.Separators.{items_after-two, last_color-two, IfOk-same}

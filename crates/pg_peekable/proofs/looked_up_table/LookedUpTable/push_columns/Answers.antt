@@ -2,7 +2,7 @@ use Rattle.std.proofs.Common.{◌<◌, ◌++◌, refl, sym, ap, ◌∙◌, arith
 use Rattle.pg_layout.specs.Position.{at}
 use Rattle.pg_layout.specs.declared.position.Position.{Position}
 use Rattle.pg_config.specs.Config.{get_horizontal}
-use Rattle.pg_picture.specs.Inside.Following.{items_after, last_color}
+use Rattle.pg_picture.specs.Inside.{items_after, last_color}
 use Rattle.pg_picture.specs.Table.{separator_part, crossing_at, border_items}
 use Rattle.pg_picture.proofs.Appending.{Gained-none, Gained-text, Gained-more, refused, Appends-text}
 use Rattle.pg_picture.proofs.Separators.{column-items, items_after-columns, last_color-columns, items_after-columns_cut}

@@ -1,7 +1,7 @@
 use Rattle.std.proofs.Common.{◌≡◌, flat_map}
 use Rattle.std.specs.List.{range_with_len}
 use Rattle.pg_picture.proofs.Appending.{Gained}
-use Rattle.pg_picture.specs.Inside.Following.{items_after, last_color}
+use Rattle.pg_picture.specs.Inside.{items_after, last_color}
 use Rattle.pg_picture.specs.Table.{separator_part}
 use Rattle.pg_peekable.proofs.looked_up_table.LookedUpTable.push_columns.Given as goal
 

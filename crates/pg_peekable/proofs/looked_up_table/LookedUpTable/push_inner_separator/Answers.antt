@@ -3,7 +3,7 @@ use Rattle.std.specs.Borrow.{Bor}
 use Rattle.pg_picture.specs.Pieces.{separator_text}
 use Rattle.pg_picture.proofs.Separators.{equal_separators, equal_when}
 use Rattle.pg_picture.proofs.Appending.{Appends-text, text-from}
-use Rattle.pg_peekable.specs.Inside.Kept.{IsSeparator}
+use Rattle.pg_peekable.specs.Inside.{IsSeparator}
 use Rattle.pg_peekable.proofs.looked_up_table.LookedUpTable.push_inner_separator.Goals as goal
 
 pub keep_separator-requires : goal.keep_separator-requires

@@ -1,6 +1,6 @@
 use Rattle.std.proofs.Common.{sym, ap, ◌∙◌}
 use Rattle.pg_layout.specs.Position.{at}
-use Rattle.pg_picture.specs.Inside.Following.{items_after, last_color}
+use Rattle.pg_picture.specs.Inside.{items_after, last_color}
 use Rattle.pg_picture.specs.Table.{crossing_at}
 use Rattle.pg_picture.proofs.Appending.{Appends-text}
 use Rattle.pg_picture.proofs.Separators.{IfOk-same}

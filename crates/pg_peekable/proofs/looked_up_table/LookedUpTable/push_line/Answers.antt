@@ -1,5 +1,5 @@
 use Rattle.std.proofs.Common.{◌++◌, ap, ◌∙◌}
-use Rattle.pg_picture.specs.Inside.Margins.{line_end}
+use Rattle.pg_picture.specs.Inside.{line_end}
 use Rattle.pg_picture.specs.Marks.{line}
 use Rattle.pg_picture.specs.Table.{mark_text}
 use Rattle.pg_picture.proofs.Appending.{Appends-text, ◌then◌, stopped}

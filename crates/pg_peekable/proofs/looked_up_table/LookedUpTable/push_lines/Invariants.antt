@@ -3,7 +3,7 @@ use Rattle.std.specs.List.{range_with_len}
 use Rattle.pg_picture.proofs.Appending.{Gained}
 use Rattle.pg_picture.specs.Marks.{line}
 use Rattle.pg_picture.specs.Table.{Known}
-use Rattle.pg_picture.specs.Inside.Following.{body_text}
+use Rattle.pg_picture.specs.Inside.{body_text}
 use Rattle.pg_peekable.proofs.looked_up_table.LookedUpTable.push_lines.Given as goal
 
 abbrev pub invariant-loop-number : goal.invariant-loop-number

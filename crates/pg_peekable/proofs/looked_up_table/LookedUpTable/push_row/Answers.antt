@@ -1,5 +1,5 @@
 use Rattle.std.proofs.Common.{◌+◌, length, refl}
-use Rattle.pg_picture.specs.Inside.Following.{body_text}
+use Rattle.pg_picture.specs.Inside.{body_text}
 use Rattle.pg_picture.specs.Table.{Known, table_body}
 use Rattle.pg_picture.proofs.Appending.{Appends-text, ◌then◌, stopped}
 use Rattle.pg_picture.proofs.Pictures.{IfOk-at, lines_of, separator_of, separator-room, lines-room, row-end, row-text}

@@ -1,9 +1,9 @@
 use Rattle.std.proofs.Common.{◌≡◌, ◌≤◌, ◌-◌, true, flat_map}
 use Rattle.std.specs.List.{range_with_len}
 use Rattle.pg_picture.proofs.Appending.{Gained}
-use Rattle.pg_picture.specs.Inside.Following.{items_after, last_color}
+use Rattle.pg_picture.specs.Inside.{items_after, last_color}
 use Rattle.pg_picture.specs.Table.{separator_part}
-use Rattle.pg_peekable.specs.Inside.LookedUpTable.{starts}
+use Rattle.pg_peekable.specs.Inside.{starts}
 use Rattle.pg_peekable.proofs.looked_up_table.LookedUpTable.push_spanned_columns.Given as goal
 
 abbrev pub invariant-loop-column : goal.invariant-loop-column

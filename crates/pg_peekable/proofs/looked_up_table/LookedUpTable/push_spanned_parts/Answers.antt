@@ -4,7 +4,7 @@ use Rattle.pg_layout.specs.declared.position.Position.{Position}
 use Rattle.pg_config.specs.Spans.{left_span}
 use Rattle.pg_picture.specs.Pieces.{written}
 use Rattle.pg_picture.specs.Table.{row_part}
-use Rattle.pg_picture.specs.Inside.Rectangles.{columns_or_one}
+use Rattle.pg_picture.specs.Inside.{columns_or_one}
 use Rattle.pg_picture.proofs.Appending.{Appends-text, Gained-none, Gained-text, Gained-more, Gained-all, refused}
 use Rattle.pg_picture.proofs.PiecesOfLines.{written-nil}
 use Rattle.pg_picture.proofs.FirstPlaces.{step-some, step-inside, step-left}

@@ -5,7 +5,7 @@ use Rattle.pg_layout.specs.Text.{lines_of}
 use Rattle.pg_picture.specs.Pieces.{written}
 use Rattle.pg_picture.proofs.Appending.{Appends-text}
 use Rattle.pg_picture.proofs.PlacesOfTexts.{text_line_at-within}
-use Rattle.pg_peekable.specs.Inside.Kept.{Reads}
+use Rattle.pg_peekable.specs.Inside.{Reads}
 use Rattle.pg_peekable.proofs.RowParts.{tall-lines, tall-room, tall-line}
 use Rattle.pg_peekable.proofs.looked_up_table.LookedUpTable.push_tall_cell.Goals as goal
 

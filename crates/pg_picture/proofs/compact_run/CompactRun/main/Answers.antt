@@ -1,6 +1,6 @@
 use Rattle.std.proofs.Common.{◌≡◌, ◌∙◌, ap, option_map, unwrap_or, ◌<◌, arith}
 use Rattle.pg_layout.specs.Colors.{str_color}
-use Rattle.pg_picture.specs.Inside.Following.{part_after}
+use Rattle.pg_picture.specs.Inside.{part_after}
 use Rattle.pg_picture.proofs.Appending.{Appends-text, Gained-none, Gained-all}
 use Rattle.pg_picture.proofs.Separators.{IfOk-same}
 use Rattle.pg_picture.proofs.PiecesOfLines.{no_parts-text, no_parts-color, one_part-text, one_part-color, main_part-none, main_part-some}

@@ -1,5 +1,5 @@
 use Rattle.std.proofs.Common.{◌≡◌, ◌∙◌, ◌&&◌, None, true, false, sym, ap}
-use Rattle.pg_picture.specs.Inside.SpansByColumns.{columns_apart, rows_apart}
+use Rattle.pg_picture.specs.Inside.{columns_apart, rows_apart}
 use Rattle.pg_picture.proofs.OwnersOfPlaces.{apart_by_columns}
 use Rattle.pg_picture.proofs.fits.spans.all_apart.Goals as goal
 

@@ -1,5 +1,5 @@
 use Rattle.std.proofs.Common.{◌≡◌, None}
-use Rattle.pg_picture.specs.Inside.SpansByColumns.{columns_apart}
+use Rattle.pg_picture.specs.Inside.{columns_apart}
 use Rattle.pg_picture.proofs.fits.spans.columns_apart.Given as goal
 
 -- what is left is told by the rectangles that are left

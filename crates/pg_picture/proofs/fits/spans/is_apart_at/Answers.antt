@@ -1,6 +1,6 @@
 use Rattle.std.proofs.Common.{◌≡◌, ◌∙◌, Some, None, sym, arith}
 use Rattle.std.proofs.lemmas.Bool.Decides.{nat_tests}
-use Rattle.pg_picture.specs.Inside.SpansByColumns.{ends_above, apart_at}
+use Rattle.pg_picture.specs.Inside.{ends_above, apart_at}
 use Rattle.pg_picture.proofs.OwnersOfPlaces.{told_by_search}
 use Rattle.pg_picture.proofs.fits.spans.is_apart_at.Goals as goal
 

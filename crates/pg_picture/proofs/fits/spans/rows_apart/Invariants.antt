@@ -1,7 +1,7 @@
 use Rattle.std.proofs.Common.{◌≡◌}
 use Rattle.std.specs.List.{list_all}
 use Rattle.pg_layout.specs.Places.{Each}
-use Rattle.pg_picture.specs.Inside.SpansByColumns.{HasEnd, apart_right, rows_apart}
+use Rattle.pg_picture.specs.Inside.{HasEnd, apart_right, rows_apart}
 use Rattle.pg_picture.proofs.fits.spans.rows_apart.Given as goal
 
 -- what is left is told by the rectangles that are left

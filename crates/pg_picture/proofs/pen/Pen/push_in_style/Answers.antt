@@ -1,7 +1,7 @@
 use Rattle.std.proofs.Common.{◌≡◌, true, ap, ap₂, sym, ◌∙◌, lit<, arith}
 use Rattle.pg_picture.specs.Fits.{cell_fits}
 use Rattle.pg_picture.specs.Pieces.{Style, written, block_line}
-use Rattle.pg_picture.specs.Inside.Cells.{style_of}
+use Rattle.pg_picture.specs.Inside.{style_of}
 use Rattle.pg_picture.proofs.Appending.{Appends-text}
 use Rattle.pg_picture.proofs.PlacesOfTexts.{single-whole, room-of-whole, cell_fits-width}
 use Rattle.pg_picture.proofs.pen.Pen.push_in_style.Goals as goal

@@ -1,6 +1,6 @@
 use Rattle.std.proofs.Common.{refl, ap, ap₂, ◌∙◌}
 use Rattle.pg_picture.specs.Pieces.{written, style_at}
-use Rattle.pg_picture.specs.Inside.Cells.{style_of, placed_line}
+use Rattle.pg_picture.specs.Inside.{style_of, placed_line}
 use Rattle.pg_picture.proofs.Appending.{Appends-text}
 use Rattle.pg_picture.proofs.PlacesOfTexts.{draws, room}
 use Rattle.pg_picture.proofs.pen.Pen.push_line_in_style.Goals as goal

@@ -1,6 +1,6 @@
 use Rattle.pg_config.specs.Config.{get_alignment_horizontal}
 use Rattle.pg_picture.specs.Pieces.{style_at}
-use Rattle.pg_picture.specs.Inside.Cells.{style_of}
+use Rattle.pg_picture.specs.Inside.{style_of}
 use Rattle.pg_picture.proofs.PlacesOfTexts.{draws-across}
 use Rattle.pg_picture.proofs.pen.Pen.push_placed_line.Goals as goal
 

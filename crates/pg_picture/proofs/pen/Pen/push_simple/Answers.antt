@@ -3,7 +3,7 @@ use Rattle.pg_config.specs.Config.{get_alignment_horizontal}
 use Rattle.pg_layout.specs.declared.alignment.AlignmentHorizontal.{AlignmentHorizontal}
 use Rattle.pg_picture.specs.Fits.{cell_fits}
 use Rattle.pg_picture.specs.Pieces.{Style, inner_width, shares}
-use Rattle.pg_picture.specs.Inside.Cells.{style_of}
+use Rattle.pg_picture.specs.Inside.{style_of}
 use Rattle.pg_picture.proofs.Appending.{Appends-text}
 use Rattle.pg_picture.proofs.PlacesOfTexts.{simple-parts, single-measured, room-of-whole, cell_fits-width}
 use Rattle.pg_picture.proofs.pen.Pen.push_simple.Goals as goal

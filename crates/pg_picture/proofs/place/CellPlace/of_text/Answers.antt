@@ -1,6 +1,6 @@
 use Rattle.std.proofs.Common.{ap, sym, ◌∙◌, arith}
 use Rattle.pg_picture.specs.declared.facts.TextFacts.{TextFacts}
-use Rattle.pg_picture.specs.Inside.Cells.{style_of, place_of}
+use Rattle.pg_picture.specs.Inside.{style_of, place_of}
 use Rattle.pg_picture.proofs.PlacesOfTexts.{place_in-tall, place-lines, facts_of-widest, cell_fits-width, cell_fits-height}
 use Rattle.pg_picture.proofs.place.CellPlace.of_text.Goals as goal
 

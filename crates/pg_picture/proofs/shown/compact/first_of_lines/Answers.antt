@@ -2,7 +2,7 @@ use Rattle.std.proofs.Common.{◌<◌, ◌≤◌, length, sym, ap, ◌∙◌, ar
 use Rattle.pg_layout.specs.declared.position.Position.{Position}
 use Rattle.pg_layout.specs.Records.{text_at}
 use Rattle.pg_picture.specs.Shown.{is_one_line}
-use Rattle.pg_picture.specs.Inside.Walks.{first_failed}
+use Rattle.pg_picture.specs.Inside.{first_failed}
 use Rattle.pg_picture.proofs.FirstPlaces.{next_row, failed_row, places_from-end}
 use Rattle.pg_picture.proofs.shown.compact.first_of_lines.Goals as goal
 

@@ -5,7 +5,7 @@ use Rattle.pg_layout.specs.Position.{at}
 use Rattle.pg_layout.specs.Records.{text_at}
 use Rattle.pg_layout.specs.Text.{lines_of}
 use Rattle.pg_picture.specs.Shown.{is_one_line}
-use Rattle.pg_picture.specs.Inside.Walks.{first_failed}
+use Rattle.pg_picture.specs.Inside.{first_failed}
 use Rattle.pg_picture.proofs.FirstPlaces.{failed_place, next_place, row_places-end}
 use Rattle.pg_picture.proofs.shown.compact.lines_in_row.Goals as goal
 

@@ -2,7 +2,7 @@ use Rattle.std.proofs.Common.{◌≡◌}
 use Rattle.pg_layout.specs.declared.position.Position.{Position}
 use Rattle.pg_layout.specs.Records.{text_at}
 use Rattle.pg_picture.specs.Shown.{is_one_line}
-use Rattle.pg_picture.specs.Inside.Walks.{first_failed, row_places}
+use Rattle.pg_picture.specs.Inside.{first_failed, row_places}
 use Rattle.pg_picture.proofs.shown.compact.lines_in_row.Given as goal
 
 -- the texts so far have one line

@@ -3,8 +3,7 @@ use Rattle.pg_layout.specs.declared.position.Position.{Position}
 use Rattle.pg_layout.specs.Position.{at}
 use Rattle.pg_config.specs.Spans.{is_left, left_span}
 use Rattle.pg_picture.specs.Sizes.{table_of}
-use Rattle.pg_picture.specs.Inside.Walks.{first_failed, owner_passes}
-use Rattle.pg_picture.specs.Inside.Rectangles.{columns_or_one}
+use Rattle.pg_picture.specs.Inside.{first_failed, owner_passes, columns_or_one}
 use Rattle.pg_picture.proofs.FittingTables.{totals_facts}
 use Rattle.pg_picture.proofs.FirstPlaces.{step-some, step-inside, step-left, failed_place, next_left_column, row_places-end}
 use Rattle.pg_picture.proofs.OwnersOfPlaces.{InOrder, first_left}

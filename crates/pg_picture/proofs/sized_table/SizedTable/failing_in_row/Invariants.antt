@@ -1,7 +1,7 @@
 use Rattle.std.proofs.Common.{◌≡◌, ◌≤◌, ◌-◌, true}
 use Rattle.pg_config.specs.Spans.{is_left}
 use Rattle.pg_picture.specs.Sizes.{table_of}
-use Rattle.pg_picture.specs.Inside.Walks.{first_failed, owner_passes, row_places}
+use Rattle.pg_picture.specs.Inside.{first_failed, owner_passes, row_places}
 use Rattle.pg_picture.proofs.sized_table.SizedTable.failing_in_row.Given as goal
 
 -- the places so far pass, and the next one is in its owner's left column

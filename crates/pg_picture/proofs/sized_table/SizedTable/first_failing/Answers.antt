@@ -1,6 +1,6 @@
 use Rattle.std.proofs.Common.{◌<◌, ◌≤◌, sym, ap, ◌∙◌, arith}
 use Rattle.pg_picture.specs.Sizes.{table_of}
-use Rattle.pg_picture.specs.Inside.Walks.{first_failed, owner_passes}
+use Rattle.pg_picture.specs.Inside.{first_failed, owner_passes}
 use Rattle.pg_picture.proofs.FirstPlaces.{next_row, failed_row, places_from-end}
 use Rattle.pg_picture.proofs.sized_table.SizedTable.first_failing.Goals as goal
 

@@ -1,6 +1,6 @@
 use Rattle.std.proofs.Common.{◌≡◌}
 use Rattle.pg_picture.specs.Sizes.{table_of}
-use Rattle.pg_picture.specs.Inside.Walks.{first_failed, owner_passes, places_from}
+use Rattle.pg_picture.specs.Inside.{first_failed, owner_passes, places_from}
 use Rattle.pg_picture.proofs.sized_table.SizedTable.first_failing.Given as goal
 
 -- the rows so far pass

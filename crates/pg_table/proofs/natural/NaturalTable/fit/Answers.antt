@@ -4,7 +4,7 @@ use Rattle.std.proofs.lemmas.Bool.Decides.{nat_tests}
 use Rattle.pg_config.specs.Spans.{Span}
 use Rattle.pg_fit.specs.Overlaid.{other_text}
 use Rattle.pg_table.specs.Natural.{natural_sizes, all_fit}
-use Rattle.pg_table.specs.Inside.Fitting.{AreFittedTogether, IsFitted}
+use Rattle.pg_table.specs.Inside.{AreFittedTogether, IsFitted}
 use Rattle.pg_table.specs.declared.fault.TableFault.TheVariants.{Totals}
 use Rattle.pg_table.specs.declared.sizes.Axis.TheVariants.{Columns}
 use Rattle.pg_table.proofs.FitFaults.{kept-parts, same-fault, not-both, fault-empty, fault-totals, fault-none, unkept}

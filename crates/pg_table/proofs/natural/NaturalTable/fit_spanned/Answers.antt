@@ -7,7 +7,7 @@ use Rattle.pg_config.specs.Config.{Config}
 use Rattle.pg_picture.specs.Fits.{spans_fit}
 use Rattle.pg_fit.specs.Overlaid.{other_text}
 use Rattle.pg_table.specs.Fitted.{fit_fault}
-use Rattle.pg_table.specs.Inside.Fitting.{AreFittedTo}
+use Rattle.pg_table.specs.Inside.{AreFittedTo}
 use Rattle.pg_table.specs.Natural.{cells_fit}
 use Rattle.pg_table.specs.Printing.{sizes_fault, sizes_fault_of, sizes_of}
 use Rattle.pg_table.specs.Spanning.{keeps_spans}

@@ -9,7 +9,7 @@ use Rattle.pg_config.specs.Spans.{Span}
 use Rattle.pg_picture.specs.Table.{Table, full_width}
 use Rattle.pg_picture.specs.Sizes.{if_fits}
 use Rattle.pg_table.specs.declared.sizes.Axis.TheVariants.{Columns}
-use Rattle.pg_table.specs.Inside.Sizes.{plain_size}
+use Rattle.pg_table.specs.Inside.{plain_size}
 use Rattle.pg_table.proofs.Faults.{fit-passes}
 use Rattle.pg_table.proofs.PlainCells.{plain-natural}
 use Rattle.pg_table.proofs.RaisedWidths.{plain-table}

@@ -7,7 +7,7 @@ use Rattle.pg_layout.specs.Records.{text_at}
 use Rattle.pg_config.specs.Config.{count_vertical}
 use Rattle.pg_picture.specs.Sizes.{if_fits}
 use Rattle.pg_table.specs.Fitted.{least_column_width}
-use Rattle.pg_table.specs.Inside.Fitting.{plain_full_width}
+use Rattle.pg_table.specs.Inside.{plain_full_width}
 use Rattle.pg_table.proofs.natural.NaturalTable.plain_least_width.Goals as goal
 
 pub returns : goal.returns

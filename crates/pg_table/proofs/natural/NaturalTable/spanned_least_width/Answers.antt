@@ -4,7 +4,7 @@ use Rattle.std.proofs.lemmas.Bool.Decides.{nat_tests}
 use Rattle.pg_picture.specs.Sizes.{if_fits}
 use Rattle.pg_picture.proofs.OwnersOfPlaces.{InOrder}
 use Rattle.pg_table.specs.Fitted.{least_full_width}
-use Rattle.pg_table.specs.Inside.Fitting.{HasHugeLeast}
+use Rattle.pg_table.specs.Inside.{HasHugeLeast}
 use Rattle.pg_table.specs.declared.fault.TableFault.TheVariants.{Memory}
 use Rattle.pg_table.proofs.Faults.{fault-is}
 use Rattle.pg_table.proofs.FitFaults.{handed-on}

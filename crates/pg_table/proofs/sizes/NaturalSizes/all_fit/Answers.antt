@@ -1,5 +1,5 @@
 use Rattle.std.proofs.Common.{◌<◌, ℕ, not, sym, ap, ◌∙◌, arith}
-use Rattle.pg_table.specs.Inside.Sizes.{size_of, count_of}
+use Rattle.pg_table.specs.Inside.{size_of, count_of}
 use Rattle.pg_table.proofs.ListedSizes.{fits-none, one-past, all_fit-each}
 use Rattle.pg_table.proofs.sizes.NaturalSizes.all_fit.Goals as goal
 

@@ -1,5 +1,5 @@
 use Rattle.std.proofs.Common.{ℕ, ◌<◌, ◌^◌}
-use Rattle.pg_table.specs.Inside.Sizes.{size_of}
+use Rattle.pg_table.specs.Inside.{size_of}
 use Rattle.pg_table.proofs.sizes.NaturalSizes.all_fit.Given as goal
 
 -- those so far fit

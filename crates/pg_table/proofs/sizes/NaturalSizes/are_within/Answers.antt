@@ -4,8 +4,7 @@ use Rattle.std.proofs.lemmas.Bool.{cases_lt, false≢true}
 use Rattle.std.proofs.lemmas.Bool.Decides.{nat_tests}
 use Rattle.pg_table.specs.Natural.{all_fit}
 use Rattle.pg_table.specs.Fitted.{beside_columns, limit_of, IsNarrow}
-use Rattle.pg_table.specs.Inside.Fitting.{AreWithin}
-use Rattle.pg_table.specs.Inside.Sizes.{size_of}
+use Rattle.pg_table.specs.Inside.{AreWithin, size_of}
 use Rattle.pg_table.specs.declared.sizes.Axis.TheVariants.{Columns}
 use Rattle.pg_table.proofs.ListedSizes.{none-past, some-below, one-past, all_fit-each, sum-more, sum-below, sum-listed, size-at}
 use Rattle.pg_table.proofs.FittedColumns.{on-true}

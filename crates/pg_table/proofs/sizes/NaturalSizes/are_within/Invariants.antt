@@ -1,7 +1,7 @@
 use Rattle.std.proofs.Common.{◌≡◌, ℕ, ◌-◌, ◌^◌, ◌<◌, ◌≤◌, true, sum_by}
 use Rattle.std.specs.List.{range_with_len}
 use Rattle.pg_table.specs.Fitted.{beside_columns, limit_of, IsNarrow}
-use Rattle.pg_table.specs.Inside.Sizes.{size_of}
+use Rattle.pg_table.specs.Inside.{size_of}
 use Rattle.pg_table.specs.declared.sizes.Axis.TheVariants.{Columns}
 use Rattle.pg_table.proofs.sizes.NaturalSizes.are_within.Given as goal
 

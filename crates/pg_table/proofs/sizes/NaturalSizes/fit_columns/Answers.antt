@@ -3,7 +3,7 @@ use Rattle.std.proofs.lemmas.List.{get_or_read}
 use Rattle.pg_fit.specs.Overlaid.{other_text}
 use Rattle.pg_table.specs.Natural.{natural_sizes}
 use Rattle.pg_table.specs.Fitted.{column_widths}
-use Rattle.pg_table.specs.Inside.Fitting.{AreFittedBelow}
+use Rattle.pg_table.specs.Inside.{AreFittedBelow}
 use Rattle.pg_table.specs.declared.sizes.Axis.TheVariants.{Columns}
 use Rattle.pg_table.proofs.FittedColumns.{length-naturals, length-widths}
 use Rattle.pg_table.proofs.FittedPlaces.{one-fitted, one-wide}

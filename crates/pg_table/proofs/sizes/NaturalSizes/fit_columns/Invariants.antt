@@ -1,6 +1,6 @@
 use Rattle.std.proofs.Common.{◌≡◌}
 use Rattle.pg_fit.specs.Overlaid.{other_text}
-use Rattle.pg_table.specs.Inside.Fitting.{AreFittedBelow}
+use Rattle.pg_table.specs.Inside.{AreFittedBelow}
 use Rattle.pg_table.proofs.sizes.NaturalSizes.fit_columns.Given as goal
 
 -- the columns so far are fitted

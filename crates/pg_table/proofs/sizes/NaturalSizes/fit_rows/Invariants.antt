@@ -1,6 +1,6 @@
 use Rattle.std.proofs.Common.{◌≡◌}
 use Rattle.pg_fit.specs.Overlaid.{other_text}
-use Rattle.pg_table.specs.Inside.Fitting.{AreFittedTo}
+use Rattle.pg_table.specs.Inside.{AreFittedTo}
 use Rattle.pg_table.proofs.sizes.NaturalSizes.fit_rows.Given as goal
 
 -- the rows before this one are fitted

@@ -11,7 +11,7 @@ use Rattle.pg_picture.specs.Sizes.{if_fits, sized}
 use Rattle.pg_picture.specs.Table.{rect_width}
 use Rattle.pg_picture.proofs.FittingTables.{rect_inside}
 use Rattle.pg_picture.proofs.Ranges.{if_fits-below, if_fits-past}
-use Rattle.pg_table.specs.Inside.Fitting.{fitted_to, HasRoomAt, HasRoomTogether}
+use Rattle.pg_table.specs.Inside.{fitted_to, HasRoomAt, HasRoomTogether}
 use Rattle.pg_table.specs.Natural.{paddings, cell_size}
 use Rattle.pg_table.specs.Spanning.{cell_room, spanned_text}
 use Rattle.pg_table.specs.declared.overflow.Overflow.{Overflow}

@@ -1,6 +1,6 @@
 use Rattle.std.proofs.Common.{ℕ, sym, ap, ◌∙◌}
 use Rattle.pg_picture.specs.Sizes.{if_fits}
-use Rattle.pg_table.specs.Inside.Fitting.{least_of}
+use Rattle.pg_table.specs.Inside.{least_of}
 use Rattle.pg_table.proofs.ListedSizes.{sum-more}
 use Rattle.pg_table.proofs.sizes.NaturalSizes.least_total.Goals as goal
 

@@ -1,7 +1,7 @@
 use Rattle.std.proofs.Common.{◌≡◌, sum_by}
 use Rattle.std.specs.List.{range_with_len}
 use Rattle.pg_picture.specs.Sizes.{if_fits}
-use Rattle.pg_table.specs.Inside.Fitting.{least_of}
+use Rattle.pg_table.specs.Inside.{least_of}
 use Rattle.pg_table.proofs.sizes.NaturalSizes.least_total.Given as goal
 
 -- the sum of those so far

@@ -2,7 +2,7 @@ use Rattle.std.proofs.Common.{◌≡◌, ◌<◌, ◌^◌, ◌++◌, ◌∷◌, 
 use Rattle.std.specs.List.{range_with_len}
 use Rattle.std.proofs.lemmas.List.FromFn.{map-range_with_len_more}
 use Rattle.pg_picture.proofs.Ranges.{if_fits-below}
-use Rattle.pg_table.specs.Inside.Sizes.{size_of, count_of}
+use Rattle.pg_table.specs.Inside.{size_of, count_of}
 use Rattle.pg_table.proofs.ListedSizes.{each-fits}
 use Rattle.pg_table.proofs.sizes.NaturalSizes.list.Goals as goal
 

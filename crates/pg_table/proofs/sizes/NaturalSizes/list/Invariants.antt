@@ -1,6 +1,6 @@
 use Rattle.std.proofs.Common.{◌≡◌, map}
 use Rattle.std.specs.List.{range_with_len}
-use Rattle.pg_table.specs.Inside.Sizes.{size_of}
+use Rattle.pg_table.specs.Inside.{size_of}
 use Rattle.pg_table.proofs.sizes.NaturalSizes.list.Given as goal
 
 -- those so far are listed

@@ -1,7 +1,7 @@
 use Rattle.std.proofs.Common.{◌∙◌, ap, length}
 use Rattle.pg_layout.specs.declared.alignment.Formatting.{Formatting}
 use Rattle.pg_layout.specs.Records.{text_at}
-use Rattle.pg_picture.specs.Inside.Cells.{facts_of}
+use Rattle.pg_picture.specs.Inside.{facts_of}
 use Rattle.pg_picture.specs.Pieces.{shown, widest}
 use Rattle.pg_picture.specs.declared.facts.TextFacts.{TextFacts}
 use Rattle.pg_table.proofs.sizes.NaturalSizes.measure.Goals as goal

@@ -5,13 +5,13 @@ use Rattle.pg_layout.specs.Records.{text_at}
 use Rattle.pg_layout.specs.Text.{Text}
 use Rattle.pg_config.specs.Config.{Config}
 use Rattle.pg_config.specs.Spans.{left_span}
-use Rattle.pg_picture.specs.Inside.Rectangles.{columns_or_one}
+use Rattle.pg_picture.specs.Inside.{columns_or_one}
 use Rattle.pg_picture.proofs.FirstPlaces.{step-some, step-inside, step-left}
 use Rattle.pg_picture.proofs.OwnersOfPlaces.{InOrder, first_left}
 use Rattle.std.proofs.lemmas.Bool.{cases_order}
 use Rattle.pg_table.specs.Natural.{is_single, single_size}
 use Rattle.pg_table.specs.declared.sizes.Axis.TheVariants.{Columns, Rows}
-use Rattle.pg_table.specs.Inside.Measuring.{most, high, wide}
+use Rattle.pg_table.specs.Inside.{most, high, wide}
 use Rattle.pg_table.proofs.ListedSizes.{most-none, most-more, most-skip}
 use Rattle.pg_table.proofs.ShownCells.{told, passed}
 use Rattle.pg_table.proofs.sizes.NaturalSizes.measure_row.Goals as goal

@@ -5,7 +5,7 @@ use Rattle.pg_layout.specs.declared.position.Position.{Position}
 use Rattle.pg_layout.specs.Records.{text_at}
 use Rattle.pg_layout.specs.Text.{Text}
 use Rattle.pg_config.specs.Config.{Config}
-use Rattle.pg_table.specs.Inside.Measuring.{most, high, wide}
+use Rattle.pg_table.specs.Inside.{most, high, wide}
 use Rattle.pg_table.proofs.ListedSizes.{most-none, most-row}
 use Rattle.pg_table.proofs.sizes.NaturalSizes.measure_rows.Goals as goal
 

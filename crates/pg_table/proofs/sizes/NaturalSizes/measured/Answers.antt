@@ -7,7 +7,7 @@ use Rattle.pg_config.specs.Spans.{Span, corner}
 use Rattle.pg_picture.proofs.OwnersOfPlaces.{InOrder}
 use Rattle.pg_table.specs.Natural.{is_sized, all_fit, size_of_singles}
 use Rattle.pg_table.specs.declared.sizes.Axis.TheVariants.{Columns, Rows}
-use Rattle.pg_table.specs.Inside.Measuring.{with_room}
+use Rattle.pg_table.specs.Inside.{with_room}
 use Rattle.pg_table.proofs.Faults.{fit-passes, no_spans}
 use Rattle.pg_table.proofs.FitFaults.{kept-from}
 use Rattle.pg_table.proofs.ListedSizes.{seam}

@@ -1,6 +1,6 @@
 use Rattle.std.proofs.Common.{◌≡◌, ℕ, List, length, drop, ap, ◌∙◌, arith}
 use Rattle.pg_table.specs.Natural.{size_of_singles}
-use Rattle.pg_table.specs.Inside.Measuring.{most}
+use Rattle.pg_table.specs.Inside.{most}
 use Rattle.pg_table.proofs.ListedSizes.{seam}
 use Rattle.pg_table.proofs.sizes.NaturalSizes.singles.Goals as goal
 

@@ -5,7 +5,7 @@ use Rattle.pg_layout.specs.Text.{greatest}
 use Rattle.pg_layout.proofs.TextLines.{greatest-more}
 use Rattle.pg_picture.specs.Sizes.{if_fits}
 use Rattle.pg_table.specs.Natural.{paddings, cell_size, cell_at, count_cells}
-use Rattle.pg_table.specs.Inside.Sizes.{plain_size}
+use Rattle.pg_table.specs.Inside.{plain_size}
 use Rattle.pg_table.proofs.sizes.NaturalSizes.size.Goals as goal
 
 pub returns : goal.returns

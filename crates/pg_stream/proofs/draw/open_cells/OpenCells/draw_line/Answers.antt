@@ -2,7 +2,7 @@ use Rattle.std.proofs.Common.{◌≡◌, ◌∙◌, ap, sym, length, map, take, 
 use Rattle.std.proofs.lemmas.List.{with_items_is}
 use Rattle.std.proofs.Math.Seq.{take-length}
 use Rattle.pg_stream.specs.Placed.{Placed, AllOpen}
-use Rattle.pg_stream.specs.Inside.OpenCells.{draw_cell}
+use Rattle.pg_stream.specs.Inside.{draw_cell}
 use Rattle.pg_stream.proofs.draw.OpenLists.{drawn-step, room-at}
 use Rattle.pg_stream.proofs.draw.open_cells.OpenCells.draw_line.Goals as goal
 

@@ -1,5 +1,5 @@
 use Rattle.std.proofs.Common.{◌≡◌, map, take, drop}
-use Rattle.pg_stream.specs.Inside.OpenCells.{draw_cell}
+use Rattle.pg_stream.specs.Inside.{draw_cell}
 use Rattle.pg_stream.proofs.draw.open_cells.OpenCells.draw_line.Given as goal
 
 abbrev pub invariant-loop-slot : goal.invariant-loop-slot

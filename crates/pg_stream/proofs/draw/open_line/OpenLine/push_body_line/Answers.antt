@@ -1,6 +1,6 @@
 use Rattle.pg_picture.specs.Pieces.{written}
 use Rattle.pg_picture.proofs.Appending.{◌then◌, stopped, Appends-text}
-use Rattle.pg_stream.specs.Inside.StreamedTable.{open_line}
+use Rattle.pg_stream.specs.Inside.{open_line}
 use Rattle.pg_stream.proofs.draw.PartsOfLines.{line_at-parts}
 use Rattle.pg_stream.proofs.draw.open_line.OpenLine.push_body_line.Goals as goal
 

@@ -2,7 +2,7 @@ use Rattle.std.proofs.Common.{◌≡◌, refl, ap}
 use Rattle.pg_layout.specs.Position.{at}
 use Rattle.pg_picture.specs.Pieces.{written}
 use Rattle.pg_picture.proofs.Appending.{Appends-text}
-use Rattle.pg_stream.specs.Inside.OpenCells.{IsTall}
+use Rattle.pg_stream.specs.Inside.{IsTall}
 use Rattle.pg_stream.specs.Placed.{IsPlaced}
 use Rattle.pg_stream.proofs.draw.OpenLists.{next-room, next-line}
 use Rattle.pg_stream.proofs.draw.open_line.OpenLine.push_cell_line.Goals as goal

@@ -1,9 +1,9 @@
 use Rattle.std.proofs.Common.{ap, refl, slice_index_or, None}
-use Rattle.pg_picture.specs.Inside.Following.{items_after, last_color}
+use Rattle.pg_picture.specs.Inside.{items_after, last_color}
 use Rattle.pg_picture.specs.Table.{crossing_at}
 use Rattle.pg_picture.proofs.Appending.{◌then◌, stopped, Gained-none, Gained-all, Appends-text}
 use Rattle.pg_picture.proofs.Separators.{items_after-two, last_color-two, IfOk-same}
-use Rattle.pg_stream.specs.Inside.StreamedTable.{cell_items}
+use Rattle.pg_stream.specs.Inside.{cell_items}
 use Rattle.pg_stream.proofs.draw.PartsOfLines.{part-inside, part-outside}
 use Rattle.pg_stream.proofs.draw.open_line.OpenLine.push_column.Goals as goal
 

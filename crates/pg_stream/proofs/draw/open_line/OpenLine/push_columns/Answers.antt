@@ -1,10 +1,10 @@
 use Rattle.std.proofs.Common.{ℕ, List, refl, sym, ap, ◌∙◌, nat_lt, max, slice_index_or, None, arith}
 use Rattle.pg_layout.specs.declared.position.Position.{Position}
 use Rattle.pg_picture.specs.Pieces.{Item}
-use Rattle.pg_picture.specs.Inside.Following.{items_after, last_color}
+use Rattle.pg_picture.specs.Inside.{items_after, last_color}
 use Rattle.pg_picture.proofs.Appending.{Gained-none, Gained-text, Gained-more, refused, Appends-text}
 use Rattle.pg_picture.proofs.Separators.{items_after-columns, last_color-columns, items_after-columns_cut}
-use Rattle.pg_stream.specs.Inside.StreamedTable.{reach, column_end, open_separator_part}
+use Rattle.pg_stream.specs.Inside.{reach, column_end, open_separator_part}
 use Rattle.pg_stream.proofs.draw.PartsOfLines.{reach-none, reach-more}
 use Rattle.pg_stream.proofs.draw.open_line.OpenLine.push_columns.Goals as goal
 

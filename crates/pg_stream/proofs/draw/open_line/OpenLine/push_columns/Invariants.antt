@@ -1,8 +1,8 @@
 use Rattle.std.proofs.Common.{◌≡◌, flat_map}
 use Rattle.std.specs.List.{range_with_len}
 use Rattle.pg_picture.proofs.Appending.{Gained}
-use Rattle.pg_picture.specs.Inside.Following.{items_after, last_color}
-use Rattle.pg_stream.specs.Inside.StreamedTable.{reach, open_separator_part}
+use Rattle.pg_picture.specs.Inside.{items_after, last_color}
+use Rattle.pg_stream.specs.Inside.{reach, open_separator_part}
 use Rattle.pg_stream.proofs.draw.open_line.OpenLine.push_columns.Given as goal
 
 abbrev pub invariant-loop-column : goal.invariant-loop-column

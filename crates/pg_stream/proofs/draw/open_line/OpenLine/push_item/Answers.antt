@@ -1,8 +1,8 @@
 use Rattle.std.proofs.Common.{◌≡◌, ◌∙◌, sym, ap, slice_index_or, option_map, Some, None}
-use Rattle.pg_picture.specs.Inside.Following.{last_color}
+use Rattle.pg_picture.specs.Inside.{last_color}
 use Rattle.pg_picture.proofs.Appending.{◌then◌, stopped, appended-as, refused-as, Appends-text}
 use Rattle.pg_stream.specs.Placed.{slot_of}
-use Rattle.pg_stream.specs.Inside.Slots.{slot_block}
+use Rattle.pg_stream.specs.Inside.{slot_block}
 use Rattle.pg_stream.proofs.draw.PartsOfLines.{items_after-block}
 use Rattle.pg_stream.proofs.draw.open_line.OpenLine.push_item.Goals as goal
 

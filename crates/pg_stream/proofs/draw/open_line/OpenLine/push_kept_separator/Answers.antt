@@ -1,6 +1,6 @@
 use Rattle.std.proofs.Common.{◌∙◌, arith}
 use Rattle.pg_picture.proofs.Appending.{Appends-text, text-from, lent-text, kept-text}
-use Rattle.pg_stream.specs.Inside.StreamedTable.{IsSeparator}
+use Rattle.pg_stream.specs.Inside.{IsSeparator}
 use Rattle.pg_stream.proofs.printer.Ending.{kept-is, keeps}
 use Rattle.pg_stream.proofs.draw.open_line.OpenLine.push_kept_separator.Goals as goal
 

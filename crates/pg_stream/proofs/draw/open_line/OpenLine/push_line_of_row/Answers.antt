@@ -4,7 +4,7 @@ use Rattle.pg_picture.specs.Pieces.{written}
 use Rattle.pg_picture.specs.Table.{vertical}
 use Rattle.pg_picture.proofs.Appending.{Gained-none, Gained-text, Gained-more, gained-then, refused, Appends-text}
 use Rattle.pg_picture.proofs.PiecesOfLines.{written-nil}
-use Rattle.pg_stream.specs.Inside.StreamedTable.{open_part}
+use Rattle.pg_stream.specs.Inside.{open_part}
 use Rattle.pg_stream.proofs.draw.PartsOfLines.{written-columns, line-cut, line-end}
 use Rattle.pg_stream.proofs.draw.open_line.OpenLine.push_line_of_row.Goals as goal
 

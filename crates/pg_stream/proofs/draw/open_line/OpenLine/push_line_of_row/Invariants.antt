@@ -2,7 +2,7 @@ use Rattle.std.proofs.Common.{flat_map}
 use Rattle.std.specs.List.{range_with_len}
 use Rattle.pg_picture.specs.Pieces.{written}
 use Rattle.pg_picture.proofs.Appending.{Gained}
-use Rattle.pg_stream.specs.Inside.StreamedTable.{open_part}
+use Rattle.pg_stream.specs.Inside.{open_part}
 use Rattle.pg_stream.proofs.draw.open_line.OpenLine.push_line_of_row.Given as goal
 
 abbrev pub invariant-loop-column : goal.invariant-loop-column

@@ -1,10 +1,10 @@
 use Rattle.std.proofs.Common.{refl, ap, ◌∙◌, ◌++◌, None, flat_map}
 use Rattle.std.specs.List.{range_with_len}
 use Rattle.pg_picture.specs.Pieces.{cut}
-use Rattle.pg_picture.specs.Inside.Following.{items_after, last_color}
+use Rattle.pg_picture.specs.Inside.{items_after, last_color}
 use Rattle.pg_picture.specs.Table.{crossing_at}
 use Rattle.pg_picture.proofs.Appending.{Appends-text, ◌then◌, stopped}
-use Rattle.pg_stream.specs.Inside.StreamedTable.{open_separator_part}
+use Rattle.pg_stream.specs.Inside.{open_separator_part}
 use Rattle.pg_layout.specs.Position.{at}
 use Rattle.pg_stream.proofs.draw.PartsOfLines.{separator-text}
 use Rattle.pg_stream.proofs.draw.open_line.OpenLine.push_separator.Goals as goal

@@ -3,8 +3,7 @@ use Rattle.pg_layout.specs.Position.{at}
 use Rattle.pg_config.specs.Spans.{rect_columns}
 use Rattle.pg_picture.proofs.Owners.{apart_from, owners_of, owner-columns}
 use Rattle.pg_stream.specs.Conditions.{HasRoom}
-use Rattle.pg_stream.specs.Inside.StreamedTable.{column_end, reach}
-use Rattle.pg_stream.specs.Inside.Turns.{begin_cell}
+use Rattle.pg_stream.specs.Inside.{column_end, reach, begin_cell}
 use Rattle.pg_stream.proofs.draw.OpenLists.{partly-none, partly-all, partly-length}
 use Rattle.pg_stream.proofs.draw.PartsOfLines.{reach-none, reach-more}
 use Rattle.pg_stream.proofs.draw.Beginning.{own_at, own-now, owner-now, own-rows, own-columns, inside-columns, reach-set, read-more, read-none, begun-more, begun-is}

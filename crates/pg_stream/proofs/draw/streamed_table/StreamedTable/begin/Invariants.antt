@@ -1,7 +1,7 @@
 use Rattle.std.proofs.Common.{◌≡◌, List}
 use Rattle.pg_layout.specs.Records.{AlwaysGives}
 use Rattle.pg_layout.specs.Text.{Text}
-use Rattle.pg_stream.specs.Inside.StreamedTable.{reach}
+use Rattle.pg_stream.specs.Inside.{reach}
 use Rattle.pg_stream.proofs.draw.Beginning.{IsReading}
 use Rattle.pg_stream.proofs.draw.streamed_table.StreamedTable.begin.Given as goal
 

@@ -1,12 +1,11 @@
 use Rattle.std.proofs.Common.{◌≡◌, ◌∙◌, sym, ap, ap₂, subst, refl, ℕ, IsSome}
 use Rattle.pg_layout.specs.Text.{Text}
-use Rattle.pg_picture.specs.Inside.Cells.{place_in}
+use Rattle.pg_picture.specs.Inside.{place_in, sheet_table}
 use Rattle.pg_picture.specs.Pieces.{style_at}
 use Rattle.pg_picture.specs.Sizes.{height_of_rect}
 use Rattle.pg_picture.specs.Table.{rect_width}
 use Rattle.pg_picture.specs.declared.place.CellPlace.{CellPlace}
 use Rattle.pg_picture.proofs.FittingTables.{some_is}
-use Rattle.pg_picture.specs.Inside.Sheets.{sheet_table}
 use Rattle.pg_stream.proofs.draw.OpenLists.{width-some, height-some}
 use Rattle.pg_stream.proofs.draw.streamed_table.StreamedTable.begin_cell.Goals as goal
 

@@ -2,7 +2,7 @@ use Rattle.std.proofs.Common.{◌∙◌, sym, ap, arith, set, Some}
 use Rattle.pg_config.specs.Spans.{rect_columns}
 use Rattle.pg_layout.specs.declared.position.Position.{Position}
 use Rattle.pg_picture.specs.Table.{Table}
-use Rattle.pg_stream.specs.Inside.Turns.{new_cell}
+use Rattle.pg_stream.specs.Inside.{new_cell}
 use Rattle.pg_stream.proofs.draw.Beginning.{begins, keeps}
 use Rattle.pg_stream.proofs.draw.streamed_table.StreamedTable.begin_one.Goals as goal
 

@@ -1,6 +1,6 @@
 use Rattle.std.proofs.Common.{◌≡◌, ◌∙◌, ap, sym, subst, set, get_or, arith, length, None, Option, IfSome, ◌≤◌, ◌<◌, zero-add, add-one}
 use Rattle.pg_stream.specs.Placed.{Placed}
-use Rattle.pg_stream.specs.Inside.Turns.{close_cell}
+use Rattle.pg_stream.specs.Inside.{close_cell}
 use Rattle.pg_stream.proofs.draw.OpenLists.{partly, partly-none, partly-all, partly-length, partly-at, partly-set, closed-is}
 use Rattle.pg_stream.proofs.draw.streamed_table.StreamedTable.close.Goals as goal
 

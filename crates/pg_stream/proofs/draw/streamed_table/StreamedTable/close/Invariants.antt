@@ -1,5 +1,5 @@
 use Rattle.std.proofs.Common.{◌≡◌}
-use Rattle.pg_stream.specs.Inside.Turns.{close_cell}
+use Rattle.pg_stream.specs.Inside.{close_cell}
 use Rattle.pg_stream.proofs.draw.OpenLists.{partly}
 use Rattle.pg_stream.proofs.draw.streamed_table.StreamedTable.close.Given as goal
 

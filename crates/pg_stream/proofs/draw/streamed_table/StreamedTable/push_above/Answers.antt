@@ -1,7 +1,7 @@
 use Rattle.std.proofs.Common.{ℕ, ◌+◌, ◌<◌, ◌^◌, sym, ap, ◌∙◌, subst, map, arith}
 use Rattle.pg_picture.proofs.Appending.{Gained-none, Gained-all, ◌then◌, stopped, refused-as, appended-as, Appends-text}
 use Rattle.pg_stream.specs.Placed.{AllOpen}
-use Rattle.pg_stream.specs.Inside.OpenCells.{draw_cell}
+use Rattle.pg_stream.specs.Inside.{draw_cell}
 use Rattle.pg_stream.proofs.draw.PartsOfLines.{drawn-none, above-absent, above-parts, height-absent, height-there}
 use Rattle.pg_stream.proofs.draw.streamed_table.StreamedTable.push_above.Goals as goal
 

@@ -1,7 +1,7 @@
 use Rattle.std.proofs.Common.{◌+◌, ◌<◌, ◌^◌, map, sym, ap, ◌∙◌, subst, arith}
 use Rattle.pg_picture.proofs.Appending.{Gained-none, Gained-text, Gained-more, refused, Appends-text}
 use Rattle.pg_stream.specs.Placed.{AllOpen}
-use Rattle.pg_stream.specs.Inside.OpenCells.{draw_cell, AreDrawn}
+use Rattle.pg_stream.specs.Inside.{draw_cell, AreDrawn}
 use Rattle.pg_stream.proofs.draw.OpenLists.{drawn-all, drawn-still}
 use Rattle.pg_stream.proofs.draw.PartsOfLines.{drawn-none, drawn-more, lines-none, lines-more, lines-cut, line-now}
 use Rattle.pg_stream.proofs.draw.streamed_table.StreamedTable.push_lines.Goals as goal

@@ -1,7 +1,6 @@
 use Rattle.std.proofs.Common.{◌≡◌, map}
 use Rattle.pg_picture.proofs.Appending.{Gained}
-use Rattle.pg_stream.specs.Inside.StreamedTable.{open_lines}
-use Rattle.pg_stream.specs.Inside.OpenCells.{draw_cell}
+use Rattle.pg_stream.specs.Inside.{open_lines, draw_cell}
 use Rattle.pg_stream.proofs.draw.streamed_table.StreamedTable.push_lines.Given as goal
 
 abbrev pub invariant-loop-line : goal.invariant-loop-line

@@ -2,13 +2,13 @@ use Rattle.std.proofs.Common.{◌≡◌, ◌∙◌, [], slice_index_or, sym, ap,
 use Rattle.pg_layout.specs.declared.position.Position.{Position}
 use Rattle.pg_layout.specs.Position.{at}
 use Rattle.pg_layout.specs.Text.{Text}
-use Rattle.pg_picture.specs.Inside.Cells.{IsOfKind}
+use Rattle.pg_picture.specs.Inside.{IsOfKind}
 use Rattle.pg_picture.specs.Pieces.{written}
 use Rattle.pg_picture.specs.Table.{vertical}
 use Rattle.pg_picture.proofs.Appending.{Appends-text, Gained-none, Gained-text, Gained-more, gained-then, refused}
 use Rattle.pg_picture.proofs.PiecesOfLines.{written-nil}
 use Rattle.pg_stream.specs.Conditions.{HasRoom}
-use Rattle.pg_stream.specs.Inside.SingleRows.{IsSingle, single_part}
+use Rattle.pg_stream.specs.Inside.{IsSingle, single_part}
 use Rattle.pg_stream.proofs.draw.Beginning.{read-more, read-none}
 use Rattle.pg_stream.proofs.draw.PartsOfLines.{written-columns}
 use Rattle.pg_stream.proofs.draw.SingleLines.{single-cut, single-end, own-plain}

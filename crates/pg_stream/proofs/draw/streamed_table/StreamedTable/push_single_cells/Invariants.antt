@@ -4,7 +4,7 @@ use Rattle.pg_layout.specs.Records.{AlwaysGives}
 use Rattle.pg_layout.specs.Text.{Text}
 use Rattle.pg_picture.proofs.Appending.{Gained}
 use Rattle.pg_picture.specs.Pieces.{written}
-use Rattle.pg_stream.specs.Inside.SingleRows.{single_part}
+use Rattle.pg_stream.specs.Inside.{single_part}
 use Rattle.pg_stream.proofs.draw.streamed_table.StreamedTable.push_single_cells.Given as goal
 
 -- the cells so far, and those that are left

@@ -1,6 +1,6 @@
 use Rattle.pg_picture.specs.Pieces.{written}
 use Rattle.pg_picture.proofs.Appending.{◌then◌, stopped, Appends-text}
-use Rattle.pg_stream.specs.Inside.SingleRows.{single_line}
+use Rattle.pg_stream.specs.Inside.{single_line}
 use Rattle.pg_stream.proofs.draw.PartsOfLines.{line_at-parts}
 use Rattle.pg_stream.proofs.draw.streamed_table.StreamedTable.push_single_row.Goals as goal
 

@@ -2,7 +2,7 @@ use Rattle.std.proofs.Common.{ℕ, ◌+◌, ◌≤◌, arith, inl, inr}
 use Rattle.std.proofs.lemmas.Bool.{cases_Bool}
 use Rattle.std.proofs.lemmas.Bool.Decides.{nat_tests}
 use Rattle.pg_config.specs.Config.{Config, has_horizontal}
-use Rattle.pg_stream.specs.Inside.Slots.{separator_height}
+use Rattle.pg_stream.specs.Inside.{separator_height}
 use Rattle.pg_stream.proofs.DrawnLines.{length_of_row}
 use Rattle.pg_stream.proofs.printer.frame.Frame.counts_lines.Goals as goal
 

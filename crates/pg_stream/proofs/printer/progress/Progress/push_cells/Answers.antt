@@ -5,7 +5,7 @@ use Rattle.std.proofs.lemmas.Iterator.Adapters.{YieldsList-from_vec}
 use Rattle.pg_layout.proofs.Given.{given-items}
 use Rattle.pg_stream.proofs.stream.StreamedRows.{given-lent}
 use Rattle.pg_picture.specs.Table.{Table}
-use Rattle.pg_stream.specs.Inside.SingleRows.{IsSingle}
+use Rattle.pg_stream.specs.Inside.{IsSingle}
 use Rattle.pg_stream.proofs.printer.progress.Progress.push_cells.Goals as goal
 
 pub push_single-requires-clause-single : goal.push_single-requires-clause-single

@@ -2,17 +2,13 @@ use Rattle.std.proofs.Common.{ℕ, ◌+◌, ◌<◌, ◌≤◌, ◌^◌, List, O
 use Rattle.std.proofs.lemmas.List.{length-map}
 use Rattle.pg_picture.proofs.Appending.{◌then◌, stopped, refused-as, appended-as, Appends-text}
 use Rattle.pg_stream.specs.Placed.{Placed, slots_of, AllOpen}
-use Rattle.pg_stream.specs.Inside.OpenCells.{draw_cell, AreDrawn}
-use Rattle.pg_stream.specs.Inside.Held.{IsSoundAt}
+use Rattle.pg_stream.specs.Inside.{draw_cell, AreDrawn, IsSoundAt, separator_height, IsOwnerAbove, cells_begun, cells_closed, IsSingle}
 use Rattle.pg_stream.specs.Printers.{now_of, IsSound}
 use Rattle.pg_stream.specs.Printing.{Printing}
-use Rattle.pg_stream.specs.Inside.Slots.{separator_height}
-use Rattle.pg_stream.specs.Inside.Turns.{IsOwnerAbove, cells_begun, cells_closed}
 use Rattle.pg_stream.proofs.DrawnLines.{length_of_row}
 use Rattle.pg_stream.proofs.printer.RowsPrinted.{room-above, drawn-above, owner-begins, whole-now, cells_now, begun-now, drawn-now, room-now}
 use Rattle.pg_stream.proofs.printer.RowsAppended.{row_text-is, after-is, sound-next, open_lines-same}
 use Rattle.pg_picture.specs.Table.{Table}
-use Rattle.pg_stream.specs.Inside.SingleRows.{IsSingle}
 use Rattle.pg_stream.proofs.printer.SingleRowsPrinted.{none-open}
 use Rattle.pg_stream.proofs.printer.progress.Progress.push_row.Goals as goal
 

@@ -2,7 +2,7 @@ use Rattle.std.proofs.Common.{◌≡◌, ◌∷◌, List}
 use Rattle.pg_layout.specs.Records.{Gives}
 use Rattle.pg_layout.specs.Text.{Text}
 use Rattle.pg_stream.specs.Conditions.{AreRowsFrom, RowsFit}
-use Rattle.pg_stream.specs.Inside.Held.{IsSoundAt}
+use Rattle.pg_stream.specs.Inside.{IsSoundAt}
 use Rattle.pg_stream.specs.Printers.{now_of}
 use Rattle.pg_stream.specs.Printing.{rows_text}
 use Rattle.pg_stream.proofs.PicturesOfRows.{Printed}

@@ -1,10 +1,9 @@
 use Rattle.std.proofs.Common.{◌≡◌, ℕ, ◌+◌, List, Option, refl, sym, ap, ap₂, ◌∙◌, subst, arith}
 use Rattle.pg_picture.proofs.Appending.{◌then◌, stopped, refused-as, appended-as, Appends-text}
 use Rattle.pg_stream.specs.Placed.{Placed, slots_of}
-use Rattle.pg_stream.specs.Inside.Held.{IsSoundAt}
+use Rattle.pg_stream.specs.Inside.{IsSoundAt, separator_height}
 use Rattle.pg_stream.specs.Printers.{now_of, IsSound}
 use Rattle.pg_stream.specs.Printing.{Printing}
-use Rattle.pg_stream.specs.Inside.Slots.{separator_height}
 use Rattle.pg_stream.proofs.DrawnLines.{length_of_row}
 use Rattle.pg_stream.proofs.printer.RowsPrinted.{room-above, drawn-above}
 use Rattle.pg_stream.proofs.printer.RowsAppended.{row_text-is, after-is, sound-next}

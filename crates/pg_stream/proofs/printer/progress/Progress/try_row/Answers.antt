@@ -2,10 +2,9 @@ use Rattle.std.proofs.Common.{◌≡◌, true, false, map, refl, sym, subst}
 use Rattle.std.proofs.lemmas.Bool.{false≢true}
 use Rattle.std.proofs.lemmas.Result.{err_from_is_err_and}
 use Rattle.pg_stream.specs.Conditions.{RowFits}
-use Rattle.pg_stream.specs.Inside.Held.{IsSoundAt}
+use Rattle.pg_stream.specs.Inside.{IsSoundAt, AreOfKind}
 use Rattle.pg_stream.specs.Printers.{now_of}
 use Rattle.pg_picture.specs.Table.{Table}
-use Rattle.pg_stream.specs.Inside.SingleRows.{AreOfKind}
 use Rattle.pg_stream.proofs.stream.StreamedRows.{row-misfits, row-refused, row-printed}
 use Rattle.pg_stream.proofs.printer.progress.Progress.try_row.Goals as goal
 

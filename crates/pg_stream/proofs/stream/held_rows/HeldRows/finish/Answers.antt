@@ -1,7 +1,7 @@
 use Rattle.std.proofs.Common.{map, option_map, refl, ap, inr, Ok, Err}
 use Rattle.std.proofs.lemmas.Result.{err_from_is_err_and}
 use Rattle.pg_picture.proofs.Appending.{refused-as, appended-as, Appends-text, Gained-none, Gained-all}
-use Rattle.pg_stream.specs.Inside.Held.{streamed}
+use Rattle.pg_stream.specs.Inside.{streamed}
 use Rattle.pg_stream.specs.Printers.{now_of}
 use Rattle.pg_stream.specs.Printing.{Printing, after_row}
 use Rattle.pg_stream.specs.Streams.{Streaming}

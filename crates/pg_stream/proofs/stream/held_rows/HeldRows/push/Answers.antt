@@ -1,6 +1,6 @@
 use Rattle.std.proofs.Common.{map, option_map, refl, sym, ap, ◌∙◌}
 use Rattle.std.proofs.lemmas.Result.{on_ok_weaker}
-use Rattle.pg_stream.specs.Inside.Held.{streamed}
+use Rattle.pg_stream.specs.Inside.{streamed}
 use Rattle.pg_stream.specs.Streams.{Streaming}
 use Rattle.pg_stream.proofs.stream.StreamedRows.{held-some, held-none, pushed-some, pushed-none}
 use Rattle.pg_stream.proofs.stream.held_rows.HeldRows.push.Goals as goal

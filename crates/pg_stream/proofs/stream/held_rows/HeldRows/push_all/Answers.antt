@@ -1,6 +1,6 @@
 use Rattle.std.proofs.Common.{map, ◌∙◌}
 use Rattle.std.proofs.lemmas.Result.{err_from_is_err_and}
-use Rattle.pg_stream.specs.Inside.Held.{streamed}
+use Rattle.pg_stream.specs.Inside.{streamed}
 use Rattle.pg_stream.specs.Streams.{Streaming}
 use Rattle.pg_stream.proofs.stream.StreamedRows.{none-pushed, pushed-next, pushed-stops, pushed-ends, untouched, touched, some-row}
 use Rattle.pg_stream.proofs.stream.StreamedResults.{none-behind, run-goes, run-stops, run-ends}

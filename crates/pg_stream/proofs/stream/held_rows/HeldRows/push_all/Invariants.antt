@@ -1,7 +1,7 @@
 use Rattle.std.proofs.Common.{◌≡◌, List, map}
 use Rattle.pg_layout.specs.Records.{AlwaysGives}
 use Rattle.pg_layout.specs.Text.{Text}
-use Rattle.pg_stream.specs.Inside.Held.{streamed, AreSoundAt}
+use Rattle.pg_stream.specs.Inside.{streamed, AreSoundAt}
 use Rattle.pg_stream.specs.Streams.{Streaming}
 use Rattle.pg_stream.proofs.stream.StreamedRows.{Pushed, IsUntouched}
 use Rattle.pg_stream.proofs.stream.StreamedResults.{AllBehind}

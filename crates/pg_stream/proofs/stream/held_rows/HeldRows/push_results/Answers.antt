@@ -3,7 +3,7 @@ use Rattle.std.proofs.lemmas.Bool.{false≢true}
 use Rattle.std.specs.Result.{result_map_both}
 use Rattle.std.proofs.lemmas.Result.{err_from_is_err_and}
 use Rattle.pg_layout.specs.Text.{Text}
-use Rattle.pg_stream.specs.Inside.Held.{streamed}
+use Rattle.pg_stream.specs.Inside.{streamed}
 use Rattle.pg_stream.specs.Streams.{Streaming}
 use Rattle.pg_stream.specs.declared.fault.RowsFault.{RowsFault}
 use Rattle.pg_stream.proofs.stream.StreamedResults.{none-streamed, item-taken, streamed-next, streamed-stops, streamed-fails, streamed-ends, none-ran, results-go-on, results-stop, results-fail, results-end-ok, results-end-err}

@@ -3,7 +3,7 @@ use Rattle.std.specs.Iterator.{IsFinite, size}
 use Rattle.std.specs.Result.{result_map_both}
 use Rattle.pg_layout.specs.Records.{AlwaysGives}
 use Rattle.pg_layout.specs.Text.{Text}
-use Rattle.pg_stream.specs.Inside.Held.{streamed, AreSoundAt}
+use Rattle.pg_stream.specs.Inside.{streamed, AreSoundAt}
 use Rattle.pg_stream.specs.Streams.{Streaming}
 use Rattle.pg_stream.proofs.stream.StreamedResults.{Streamed, Ran}
 use Rattle.pg_stream.proofs.stream.StreamedRows.{IsUntouched}
