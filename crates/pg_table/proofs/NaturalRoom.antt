@@ -22,7 +22,7 @@ use Rattle.pg_picture.proofs.MarksOfRectangles.{height_of_rect-sum, rect_height-
 use Rattle.pg_picture.proofs.OwnersOfPlaces.{Among, find_cases}
 use Rattle.pg_picture.proofs.Owners.{is_at-same}
 use Rattle.pg_picture.proofs.FirstPlaces.{misfit_of-totals, fitting_tables_have_none, none_failed, unshown_of-misfit, unshown_of-cell, fits}
-use Rattle.pg_table.specs.Laws.{NaturalTablesHaveRoom, PlainSizes}
+use Rattle.pg_table.specs.Laws.{NaturalTablesHaveRoom, PlainSizes, NaturalHeightsShowAll, table_of_widths}
 use Rattle.pg_table.specs.Natural.{cell_size, cell_at, count, count_cells, is_single, size_of_singles, need_of, natural_size, natural_sizes, natural_table, all_fit, is_sized, cells_fit}
 use Rattle.pg_table.specs.Widening.{widened}
 use Rattle.pg_table.specs.declared.needs.Need.{Need}
@@ -35,7 +35,6 @@ use Rattle.std.proofs.lemmas.List.FromFn.{length-map-range_with_len, get_or-map-
 use Rattle.pg_table.specs.Inside.{with_room}
 use Rattle.pg_picture.specs.Shown.{cell_shows_all, owner_shows_all, misfit_or_cell}
 use Rattle.pg_picture.specs.declared.fits.Misfit.{Misfit}
-use Rattle.pg_table.specs.ShownLaws.{NaturalHeightsShowAll, table_of_widths}
 
 -- ---- a table at its natural sizes has room for its cells
 

@@ -8,7 +8,7 @@ use Rattle.std.proofs.lemmas.Bool.Decides.{nat_tests}
 use Rattle.pg_layout.specs.Position.{at}
 use Rattle.pg_layout.specs.Records.{ragged_row, text_at}
 use Rattle.pg_layout.specs.Text.{Text}
-use Rattle.pg_table.specs.Rearranged.{transposed}
+use Rattle.pg_table.specs.OwnRows.{transposed}
 
 -- rows of one length aren't ragged
 even-none : {X : Type 0} (rows : List (List X)) (n : ℕ) → ((k : ℕ) → k < length rows → length (get_or rows k []) ≡ n) → ragged_row rows ≡ None

@@ -27,7 +27,7 @@ use Rattle.pg_picture.specs.Table.{Table, rect_width, rect_height, rect_marks}
 use Rattle.pg_picture.proofs.FittingTables.{widths_fit, heights_fit, rect_inside, rect_width_fits, rect_height_fits, rect_height-one_row}
 use Rattle.pg_picture.proofs.Owners.{is_at-same}
 use Rattle.pg_picture.proofs.FirstPlaces.{fitting_tables_have_none}
-use Rattle.pg_table.specs.ShownLaws.{table_of_widths}
+use Rattle.pg_table.specs.Laws.{table_of_widths}
 use Rattle.pg_table.specs.declared.sizes.Axis.TheVariants.{Columns, Rows}
 
 -- ---- columns that are widened for cells have room for each of them, and stay where they had it

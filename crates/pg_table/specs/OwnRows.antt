@@ -4,15 +4,23 @@ use Rattle.pg_layout.specs.declared.alignment.AlignmentHorizontal.{AlignmentHori
 use Rattle.pg_layout.specs.declared.borders.Borders.{Borders}
 use Rattle.pg_layout.specs.declared.borders.HorizontalLine.{HorizontalLine}
 use Rattle.pg_layout.specs.declared.position.Entity.{Entity}
-use Rattle.pg_layout.specs.Records.{columns_of}
+use Rattle.pg_layout.specs.Records.{columns_of, text_at}
 use Rattle.pg_layout.specs.Text.{Text}
 use Rattle.pg_config.specs.Settings.{with_setting}
-use Rattle.pg_table.specs.Crossings.{with_span_crossings}
+use Rattle.pg_table.specs.Panels.{with_span_crossings}
 use Rattle.pg_table.specs.Natural.{natural_sizes}
 use Rattle.pg_table.specs.Printing.{Parts, sizes_fault, with_header_line}
 use Rattle.pg_table.specs.Titles.{with_title}
 use Rattle.pg_table.specs.declared.fault.TableFault.{TableFault}
 use Rattle.pg_table.specs.declared.sizes.Axis.{Axis}
+use Rattle.std.specs.List.{range_with_len}
+use Rattle.pg_layout.specs.Position.{at}
+
+-- the texts of so many columns, where row c is column c
+abbrev pub transposed : List (List Text) → ℕ → List (List Text)
+transposed texts columns = map (λ c. map (λ r. text_at texts (at r c)) (range_with_len 0 (length texts))) (range_with_len 0 columns)
+
+-- ---- rows made of other rows
 
 -- the texts of its cells, by that of a value
 abbrev pub texts_of : {T : Type 0} → (T → Text) → Parts T → List (List Text)

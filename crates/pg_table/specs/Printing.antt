@@ -1,11 +1,11 @@
 -- What printing a table at its natural sizes does.
-use Rattle.std.specs.Prelude.{◌≡◌, ◌⊎◌, Bool, true, not, ◌&&◌, ◌||◌, ◌==◌, nat_lt, ℕ, List, map, length, Option, Some, None, Result, Err, String, if◌then◌else◌}
+use Rattle.std.specs.Prelude.{◌≡◌, ◌⊎◌, Bool, true, not, ◌&&◌, ◌||◌, ◌==◌, nat_lt, ℕ, List, map, length, Option, Some, None, Result, Err, String, if◌then◌else◌, codes}
 use Rattle.pg_layout.specs.declared.borders.HorizontalLine.{HorizontalLine}
 use Rattle.pg_layout.specs.declared.position.Position.{Position}
 use Rattle.pg_layout.specs.Colors.{Color}
 use Rattle.pg_layout.specs.ColorsMap.{color_at}
 use Rattle.pg_layout.specs.Looks.{ascii}
-use Rattle.pg_layout.specs.Records.{columns_of, text_at}
+use Rattle.pg_layout.specs.Records.{columns_of, text_at, records_fault_text}
 use Rattle.pg_layout.specs.Text.{Text}
 use Rattle.pg_config.specs.Config.{Config, default_config}
 use Rattle.pg_config.specs.Overrides.{with_row_line}
@@ -15,10 +15,19 @@ use Rattle.pg_picture.specs.Appending.{AppendsOrNothing}
 use Rattle.pg_table.specs.Natural.{natural_sizes, natural_table, all_fit, cells_fit}
 use Rattle.pg_table.specs.Spanning.{widths_from, table_from}
 use Rattle.pg_table.specs.declared.fault.TableFault.{TableFault}
-use Rattle.pg_table.specs.declared.fault.TableFault.TheVariants.{Spans, Totals, Memory}
+use Rattle.pg_table.specs.declared.fault.TableFault.TheVariants.{Spans, Totals, Memory, Ragged}
 use Rattle.pg_table.specs.declared.natural.NaturalTable.{NaturalTable}
 use Rattle.pg_table.specs.declared.sizes.Axis.{Axis}
 use Rattle.pg_table.specs.declared.sizes.Axis.TheVariants.{Columns, Rows}
+use Rattle.pg_layout.specs.declared.vec_records.RecordsFault.TheVariants as records
+
+abbrev pub table_fault_text : TableFault → Text
+table_fault_text (Ragged row) = records_fault_text (records.Ragged row)
+table_fault_text Totals = codes "the sizes are too large"
+table_fault_text Memory = codes "out of memory"
+table_fault_text Spans = codes "a span is 0, leaves the table, or shares a place with another"
+
+-- ---- faults
 
 -- ---- faults
 

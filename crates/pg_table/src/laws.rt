@@ -1,9 +1,8 @@
 //! Laws of natural sizes: the contracts of functions that do nothing are the laws.
 
 ghost use Rattle.pg_table.specs.Html.{TextsOpenNoTag};
-ghost use Rattle.pg_table.specs.Laws.{NaturalTablesHaveRoom, TotalsHoldSizes, PlainSizes, LooksAreNarrow};
-ghost use Rattle.pg_table.specs.ShownLaws.{NaturalHeightsShowAll};
-ghost use Rattle.pg_table.specs.WideningLaws.{CellsHaveRoom, NoColumnShrinks, NoColumnPassesItsCells, EnoughStays, AloneIsExact};
+ghost use Rattle.pg_table.specs.Laws.{NaturalTablesHaveRoom, TotalsHoldSizes, PlainSizes, LooksAreNarrow, CellsHaveRoom, NoColumnShrinks, NoColumnPassesItsCells, EnoughStays, AloneIsExact};
+ghost use Rattle.pg_table.specs.Laws.{NaturalHeightsShowAll};
 
 /// At its natural sizes a table has room for each of its shown cells: only spans and totals can
 /// misfit. If the totals fit, each natural size does. Without spans each column is as wide as its

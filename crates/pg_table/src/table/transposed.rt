@@ -4,9 +4,8 @@ ghost use Rattle.std.specs.Prelude.{◌≡◌, ◌<◌, [], length, map, Err, If
 ghost use Rattle.std.specs.List.{range_with_len};
 ghost use Rattle.pg_layout.specs.Position.{at};
 ghost use Rattle.pg_layout.specs.Records.{columns_of, text_at};
-ghost use Rattle.pg_table.specs.OwnRows.{texts_of};
+ghost use Rattle.pg_table.specs.OwnRows.{texts_of, transposed};
 ghost use Rattle.pg_table.specs.Printing.{ascii_config};
-ghost use Rattle.pg_table.specs.Rearranged.{transposed};
 
 use crate::fault::TableFault;
 use crate::table::Table;

@@ -2,9 +2,8 @@ use Rattle.std.proofs.Common.{◌≡◌, Some, None, [], map, refl, sym, ap, ◌
 use Rattle.std.specs.Option.{option_map}
 use Rattle.std.specs.Result.{result_err}
 use Rattle.pg_layout.specs.Records.{columns_of, ragged_row}
-use Rattle.pg_table.specs.OwnRows.{texts_of}
+use Rattle.pg_table.specs.OwnRows.{texts_of, transposed}
 use Rattle.pg_table.specs.Printing.{ascii_config}
-use Rattle.pg_table.specs.Rearranged.{transposed}
 use Rattle.pg_table.specs.declared.fault.TableFault.TheVariants.{Ragged}
 use Rattle.pg_table.proofs.Rearranged.{columns-even, map-map}
 use Rattle.pg_table.proofs.Setters.{left}
