@@ -6,8 +6,7 @@ use Rattle.pg_layout.specs.declared.position.Position.{Position}
 use Rattle.pg_layout.specs.Colors.{Color}
 use Rattle.pg_layout.specs.Text.{Text}
 use Rattle.pg_config.specs.CompactConfig.{settings_of}
-use Rattle.pg_picture.specs.CompactLines.{CompactTable, compact_width, compact_full_width}
-use Rattle.pg_picture.specs.CompactSizes.{compact_sized}
+use Rattle.pg_picture.specs.CompactLines.{CompactTable, compact_width, compact_full_width, compact_sized}
 use Rattle.pg_picture.specs.Fits.{compact_misfit_of}
 use Rattle.pg_picture.specs.Picture.{compact_picture}
 use Rattle.pg_picture.specs.Sizes.{if_fits}

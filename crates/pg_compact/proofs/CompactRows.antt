@@ -19,13 +19,12 @@ use Rattle.pg_compact.specs.Inside.{AreRows, printed_table, inner_glyph, text_co
 use Rattle.pg_layout.specs.declared.borders.Borders.{Borders}
 use Rattle.std.proofs.lemmas.List.Concat.{flat_map-append}
 use Rattle.pg_layout.specs.declared.borders.HorizontalLine.{HorizontalLine}
-use Rattle.pg_picture.specs.Pieces.{cut}
+use Rattle.pg_picture.specs.Pieces.{cut, fed, joined, continued}
 use Rattle.pg_picture.specs.Inside.{open_parts, open_color, lines_before, feed_before}
 use Rattle.pg_picture.proofs.PiecesOfLines.{open_parts-append, open_color-append, parts_after-close}
 use Rattle.std.proofs.lemmas.Bool.Decides.{nat_tests}
 use Rattle.std.proofs.lemmas.List.{length-replicate}
 use Rattle.pg_layout.specs.Borders.{has_top, has_bottom, has_inner_horizontal}
-use Rattle.pg_picture.specs.Joined.{fed, joined, continued}
 use Rattle.pg_picture.specs.Picture.{compact_picture}
 use Rattle.pg_picture.proofs.Pictures.{continued-nil, continued-line, continued-append, continued-any}
 

@@ -7,8 +7,7 @@ use Rattle.pg_layout.specs.Records.{text_at}
 use Rattle.pg_layout.specs.Text.{Text}
 use Rattle.pg_config.specs.declared.compact.CompactConfig.{CompactConfig}
 use Rattle.pg_config.specs.CompactConfig.{settings_of}
-use Rattle.pg_picture.specs.CompactLines.{CompactTable}
-use Rattle.pg_picture.specs.CompactSizes.{compact_sized}
+use Rattle.pg_picture.specs.CompactLines.{CompactTable, compact_sized}
 use Rattle.pg_picture.specs.Fits.{compact_misfit_of}
 use Rattle.pg_picture.specs.declared.fits.Misfit.{Misfit}
 use Rattle.pg_layout.specs.declared.records.Records as records

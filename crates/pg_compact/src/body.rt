@@ -7,7 +7,7 @@ ghost use Rattle.pg_layout.specs.Colors.{str_color};
 ghost use Rattle.pg_layout.specs.Records.{Gives};
 ghost use Rattle.pg_picture.specs.Appending.{Appends};
 ghost use Rattle.pg_picture.specs.CompactLines.{compact_full_width, line_if, separator_row, padding_row, text_row, row_lines};
-ghost use Rattle.pg_picture.specs.Joined.{continued, fed};
+ghost use Rattle.pg_picture.specs.Pieces.{continued, fed};
 ghost use Rattle.pg_picture.specs.Inside.{feed_before, lines_before};
 ghost use Rattle.pg_picture.specs.Picture.{compact_picture};
 ghost use Rattle.pg_compact.specs.CompactGrids.{has_no_cells, CompactFits};

@@ -8,8 +8,7 @@ use Rattle.pg_layout.specs.Position.{at}
 use Rattle.pg_layout.specs.Records.{AlwaysGives, text_at}
 use Rattle.pg_layout.specs.Text.{Text}
 use Rattle.pg_config.specs.Config.{Config}
-use Rattle.pg_picture.specs.Fitting.{TableFits}
-use Rattle.pg_picture.specs.Fits.{misfit_of}
+use Rattle.pg_picture.specs.Fits.{TableFits, misfit_of}
 use Rattle.pg_picture.specs.Picture.{picture}
 use Rattle.pg_picture.specs.Table.{Table, is_empty}
 use Rattle.pg_picture.proofs.FirstPlaces.{fits}

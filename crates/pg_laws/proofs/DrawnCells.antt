@@ -29,7 +29,7 @@ use Rattle.pg_layout.specs.Places.{same, value_at}
 use Rattle.pg_layout.specs.Colors.{Color}
 use Rattle.pg_layout.specs.Text.{Text}
 use Rattle.pg_config.specs.Settings.{Settings}
-use Rattle.pg_picture.specs.Joined.{joined}
+use Rattle.pg_picture.specs.Pieces.{joined}
 use Rattle.pg_picture.specs.Picture.{top_lines, bottom_lines, body_lines, picture_lines, picture}
 
 -- ---- a shown cell is drawn in each line of its rectangle, and these lines stand together

@@ -8,7 +8,7 @@ use Rattle.std.proofs.lemmas.Bool.Decides.{nat_tests}
 use Rattle.pg_layout.specs.Text.{Text, lines_of}
 use Rattle.pg_picture.specs.Table.{Table, margin_lines, table_body, Hint, vertical, row_part, line_of_row, crossing_at, horizontal_items, separator_part, separator_items, is_blank_at, side_margin, mark_text, body_line, Known}
 use Rattle.pg_picture.specs.CompactLines.{compact_lines}
-use Rattle.pg_picture.specs.Joined.{joined}
+use Rattle.pg_picture.specs.Pieces.{joined, fill, written}
 use Rattle.pg_picture.specs.Fits.{body_height}
 use Rattle.pg_picture.specs.Picture.{top_lines, bottom_lines, body_lines, picture_lines, compact_picture, picture}
 use Rattle.pg_picture.proofs.Pictures.{length-body_lines, length-top, picture-none, picture-some, flat_map-same, hints_are_idle}
@@ -21,7 +21,6 @@ use Rattle.pg_layout.specs.Colors.{Color}
 use Rattle.pg_layout.specs.Position.{at}
 use Rattle.pg_config.specs.Config.{get_horizontal, Config}
 use Rattle.pg_picture.specs.Marks.{Mark}
-use Rattle.pg_picture.specs.Pieces.{fill, written}
 use Rattle.pg_picture.specs.Plain.{cell_line}
 use Rattle.pg_picture.proofs.Ranges.{range-more}
 use Rattle.pg_picture.proofs.FittingTables.{row_part_plain, row_part_plain_end, crossing_plain, column_items_plain}

@@ -13,7 +13,7 @@ use Rattle.pg_config.specs.Config.{Config, filled}
 use Rattle.pg_config.specs.Overrides.{with_border, no_overrides}
 use Rattle.pg_config.specs.Settings.{with_setting}
 use Rattle.pg_picture.specs.Table.{Hint, Known, Unknown, Table}
-use Rattle.pg_picture.specs.Joined.{joined, continued}
+use Rattle.pg_picture.specs.Pieces.{joined, continued}
 use Rattle.pg_picture.specs.Picture.{picture}
 use Rattle.pg_picture.specs.Samples.{table, plain, bordered, indent, for_cell}
 use Rattle.pg_picture.proofs.Computing.{grid_words}

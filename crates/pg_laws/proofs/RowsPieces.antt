@@ -8,7 +8,7 @@ use Rattle.pg_layout.specs.Colors.{Color}
 use Rattle.pg_layout.specs.Text.{lines_of, blank_top, blank_bottom, without_blank_ends, Text, width_of, text_width_of, is_blank, first_line_of}
 use Rattle.pg_config.specs.Config.{Config, default_config}
 use Rattle.pg_picture.specs.Marks.{sep, line, body, marks_within, place_of}
-use Rattle.pg_picture.specs.Pieces.{run, words, fill, written, pieces_width, shares, lines_above, cut, widest, shown, glyph, spaces, block, separator_text}
+use Rattle.pg_picture.specs.Pieces.{run, words, fill, written, pieces_width, shares, lines_above, cut, widest, shown, glyph, spaces, block, separator_text, joined}
 use Rattle.pg_picture.proofs.Computing.{picture_words, grid_words}
 use Rattle.std.specs.Fmt.{digits}
 use Rattle.pg_layout.specs.declared.sides.Offset.TheVariants.{Start, End}
@@ -21,7 +21,6 @@ use Rattle.pg_config.specs.Offsets.{with_offset, no_offsets}
 use Rattle.pg_config.specs.Overrides.{with_border, no_overrides}
 use Rattle.pg_config.specs.Spans.{with_row_span}
 use Rattle.pg_picture.specs.Table.{Known}
-use Rattle.pg_picture.specs.Joined.{joined}
 use Rattle.pg_picture.specs.Picture.{picture}
 use Rattle.pg_picture.specs.Samples.{table, plain, bordered, indent}
 use Rattle.pg_laws.specs.Samples.{one, in_colors, color_r, color_b, color_g, for_all}

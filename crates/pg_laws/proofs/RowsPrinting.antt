@@ -14,7 +14,7 @@ use Rattle.pg_laws.proofs.Computing.{printing_words, sample_words}
 use Rattle.pg_layout.specs.declared.alignment.AlignmentHorizontal.TheVariants as across
 use Rattle.pg_layout.specs.Looks.{ascii}
 use Rattle.pg_config.specs.Config.{filled}
-use Rattle.pg_picture.specs.Joined.{joined}
+use Rattle.pg_picture.specs.Pieces.{joined}
 use Rattle.pg_picture.specs.Picture.{compact_picture}
 use Rattle.pg_laws.specs.Samples.{grid22, one, color_r, color_b, color_g, spaced, no_color, plain_compact, compact_table}
 

@@ -21,8 +21,7 @@ use Rattle.pg_picture.specs.Table.{Table, Hint, Known, Unknown, rect_marks, rect
 use Rattle.pg_picture.specs.Table.{horizontal_items, column_items, separator_part, separator_items, mark_text, body_line, table_body}
 use Rattle.pg_picture.specs.Rectangles.{IsOwner}
 use Rattle.pg_picture.specs.CompactLines.{CompactTable, Part, parts_after, compact_lines}
-use Rattle.pg_picture.specs.Fits.{body_height, spans_fit, totals_fit, cell_fits, owner_fits, misfit_of}
-use Rattle.pg_picture.specs.Fitting.{TableFits}
+use Rattle.pg_picture.specs.Fits.{body_height, spans_fit, totals_fit, cell_fits, owner_fits, misfit_of, TableFits}
 use Rattle.pg_picture.specs.Straight.{HasNarrowFills, left_margin, right_margin, CellsFit, HasNarrowGlyphs, HasNoGaps, HasStraightLines, HasNarrowMargins, HasStraightMargins}
 use Rattle.pg_picture.specs.Plain.{cell_line, IsFromStart}
 use Rattle.pg_picture.specs.declared.fits.Misfit.{Misfit}

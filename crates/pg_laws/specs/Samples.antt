@@ -10,7 +10,7 @@ use Rattle.pg_layout.specs.Text.{Text}
 use Rattle.pg_layout.specs.Colors.{Color}
 use Rattle.pg_config.specs.Overrides.{no_overrides, with_row_line}
 use Rattle.pg_config.specs.Settings.{Settings}
-use Rattle.pg_picture.specs.Joined.{joined}
+use Rattle.pg_picture.specs.Pieces.{joined}
 use Rattle.pg_picture.specs.Table.{Table}
 use Rattle.pg_picture.specs.Samples.{table, plain, indent, text_in}
 use Rattle.pg_config.specs.CompactConfig.{CompactSettings, empty_color, default_compact}

@@ -22,7 +22,7 @@ ghost use Rattle.pg_config.specs.Spans.{with_column_span, with_row_span};
 ghost use Rattle.pg_picture.specs.declared.fits.Misfit.TheVariants.{Room, Spans, Totals};
 ghost use Rattle.pg_picture.specs.Fits.{misfit_of};
 ghost use Rattle.pg_picture.specs.Table.{Known, Table, Unknown};
-ghost use Rattle.pg_picture.specs.Joined.{joined};
+ghost use Rattle.pg_picture.specs.Pieces.{joined};
 ghost use Rattle.pg_picture.specs.Picture.{compact_picture, picture};
 ghost use Rattle.pg_picture.specs.Samples.{bordered, for_cell, indent, plain, table};
 ghost use Rattle.pg_laws.specs.Samples.{plain_compact, compact_table, color_b, color_g, color_r, for_all, grid22, one, spaced};

@@ -7,8 +7,7 @@ use Rattle.pg_config.specs.Spans.{Span, corner, owner, is_left, left_span, span_
 use Rattle.pg_picture.specs.Marks.{line, sep}
 use Rattle.pg_picture.specs.Pieces.{Piece, written, style_at, block_line, Item, block, cut, Style}
 use Rattle.pg_picture.specs.Table.{Table, vertical, vertical_at, block_at, row_part, crossing_at, border_items, separator_part}
-use Rattle.pg_picture.specs.Fits.{cell_fits}
-use Rattle.pg_picture.specs.Fitting.{TableFits}
+use Rattle.pg_picture.specs.Fits.{cell_fits, TableFits}
 use Rattle.pg_picture.specs.Inside.{columns_or_one, items_after, last_color, HasRoomFor, facts_of, place_of, text_line_at, line_if, placed_line}
 use Rattle.pg_picture.proofs.PiecesOfLines.{written-append}
 use Rattle.pg_picture.proofs.Ranges.{range-more, range-cut}

@@ -3,9 +3,8 @@ use Rattle.std.specs.Prelude.{◌≡◌, ℕ, ◌<◌, ◌^◌, ◌||◌, Bool, 
 use Rattle.pg_layout.specs.Keys.{by_columns, Order}
 use Rattle.pg_layout.specs.Places.{IsAscending, Each}
 use Rattle.pg_config.specs.Spans.{Span, begins_above, is_left, corner, rect_rows, rect_columns, left_span, span_above}
-use Rattle.pg_picture.specs.Fits.{misfit_of, cell_fits}
+use Rattle.pg_picture.specs.Fits.{misfit_of, cell_fits, TableFits}
 use Rattle.pg_picture.specs.Table.{Table, table_body, is_empty, rect_width, rect_height, separator_items}
-use Rattle.pg_picture.specs.Fitting.{TableFits}
 use Rattle.std.specs.Coded.{×_prop, Unit-prop, Coded-set, coded_bool}
 use Rattle.pg_layout.specs.Position.{at}
 use Rattle.pg_config.specs.Config.{has_horizontal}

@@ -50,7 +50,7 @@ where
     ghost use Rattle.pg_picture.specs.Fits.{misfit_of};
     ghost use Rattle.pg_picture.specs.Grids.{table_of_parts};
     ghost use Rattle.pg_picture.specs.Inside.{body_text};
-    ghost use Rattle.pg_picture.specs.Joined.{joined};
+    ghost use Rattle.pg_picture.specs.Pieces.{joined};
     ghost use Rattle.pg_picture.specs.Picture.{picture, picture_lines};
     ghost use Rattle.pg_picture.specs.Sizes.{unless_misfit};
     ghost use Rattle.pg_picture.specs.Straight.{IsStraight};

@@ -16,8 +16,7 @@ use Rattle.pg_layout.specs.Position.{at, is_at}
 use Rattle.pg_config.specs.Spans.{Span, corner, in_span, owner, left_span, size_of, rect_rows, rect_columns, span_size}
 use Rattle.pg_picture.specs.Pieces.{style_at, block_line}
 use Rattle.pg_picture.specs.Table.{Table, rect_marks, rect_height, rect_width, block_at}
-use Rattle.pg_picture.specs.Fits.{body_height, totals_fit, cell_fits}
-use Rattle.pg_picture.specs.Fitting.{TableFits}
+use Rattle.pg_picture.specs.Fits.{body_height, totals_fit, cell_fits, TableFits}
 use Rattle.pg_picture.specs.Rectangles.{IsOwner}
 use Rattle.pg_picture.specs.Inside.{rows_height}
 use Rattle.pg_picture.proofs.FittingTables.{RectInside, rect_inside, totals_facts, owner_fits-own}

@@ -11,9 +11,8 @@ use Rattle.pg_picture.proofs.Owners.{is_at-same}
 use Rattle.std.specs.List.{range_with_len}
 use Rattle.pg_picture.specs.declared.fits.Misfit.{Misfit}
 use Rattle.pg_picture.specs.declared.shown.Unshown.{Unshown}
-use Rattle.pg_picture.specs.CompactLines.{CompactTable, compact_width, compact_full_width}
-use Rattle.pg_picture.specs.CompactSizes.{compact_sized}
-use Rattle.pg_picture.specs.Fits.{places, misfit_of, compact_misfit_of, spans_fit, totals_fit, cell_fits, owner_fits}
+use Rattle.pg_picture.specs.CompactLines.{CompactTable, compact_width, compact_full_width, compact_sized}
+use Rattle.pg_picture.specs.Fits.{places, misfit_of, compact_misfit_of, spans_fit, totals_fit, cell_fits, owner_fits, TableFits}
 use Rattle.pg_picture.specs.Sizes.{unless_misfit}
 use Rattle.pg_picture.specs.Pieces.{Style, style_at}
 use Rattle.pg_picture.specs.Shown.{owner_shows_all, unshown_of, misfit_or_cell, is_one_line, compact_unshown_of}
@@ -21,7 +20,6 @@ use Rattle.pg_picture.specs.Table.{Table, rect_width, rect_height}
 use Rattle.pg_layout.specs.Text.{Text}
 use Rattle.std.specs.Option.{option_map}
 use Rattle.pg_picture.specs.declared.fits.Misfit.TheVariants.{Spans, Totals, Room}
-use Rattle.pg_picture.specs.Fitting.{TableFits}
 use Rattle.pg_picture.proofs.FittingTables.{rect_width_plain, rect_height_plain}
 
 -- ---- a walk along a row from left column to left column meets each place that owns itself

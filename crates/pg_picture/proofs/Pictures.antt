@@ -4,7 +4,7 @@ use Rattle.std.proofs.lemmas.List.{length-replicate, replicate-append-replicate,
 use Rattle.std.proofs.lemmas.List.Concat.{flat_map-append}
 use Rattle.std.proofs.lemmas.Bool.Decides.{nat_tests}
 use Rattle.pg_layout.specs.Text.{Text}
-use Rattle.pg_picture.specs.Joined.{fed, joined, continued}
+use Rattle.pg_picture.specs.Pieces.{fed, joined, continued, written}
 use Rattle.pg_picture.specs.Inside.{lines_before, feed_before, body_text, line_start, line_end}
 use Rattle.std.specs.List.{enumerate_from, range_with_len, All}
 use Rattle.std.proofs.lemmas.List.FromFn.{length-enumerate_from, length-map-range_with_len, length-range_with_len, get_or-range_with_len}
@@ -16,7 +16,6 @@ use Rattle.pg_picture.specs.Table.{Table, Hint, Known, body_line, table_body, ma
 use Rattle.pg_picture.proofs.Ranges.{range-add}
 use Rattle.pg_picture.proofs.MarksOfRectangles.{rows_from, marks_above-add}
 use Rattle.pg_picture.specs.Picture.{body_lines, top_lines, bottom_lines, picture_lines, picture}
-use Rattle.pg_picture.specs.Pieces.{written}
 use Rattle.std.proofs.lemmas.List.Elements.{All-nil, All-cons, All-append, All-map, All-head, All-tail}
 use mathlib.Core.Path.{fun_ext}
 use Rattle.pg_layout.specs.declared.sides.Offset.{Offset}

@@ -1,6 +1,6 @@
 -- The lines of a compact table.
-use Rattle.std.specs.Prelude.{ℕ, zero, suc, ◌+◌, ◌-◌, Bool, true, false, ◌&&◌, ◌==◌, nat_lt, nat_le, List, [], ◌∷◌, ◌++◌, flat_map, length, replicate, sum_by, Option, Some, None}
-use Rattle.std.specs.Prelude.{unwrap_or, if◌then◌else◌}
+use Rattle.std.specs.Prelude.{ℕ, zero, suc, ◌+◌, ◌-◌, Bool, true, false, ◌&&◌, ◌==◌, nat_lt, nat_le, List, [], ◌∷◌, ◌++◌, flat_map, length, replicate, sum_by, Option, Some, None, unwrap_or}
+use Rattle.std.specs.Prelude.{if◌then◌else◌}
 use Rattle.std.specs.List.{range_with_len}
 use Rattle.pg_layout.specs.declared.position.Position.{Position}
 use Rattle.pg_layout.specs.declared.sides.Indent.{Indent}
@@ -152,3 +152,16 @@ compact_lines t =
     ++ flat_map (row_lines t) (range_with_len 0 t.rows))
     ++ (line_if (has_bottom b) (separator_row t (bottom_line b) (bottom_line c))
     ++ compact_margin t t.config.margin.bottom t.config.margin_color.bottom)
+
+-- ---- sizes
+
+-- a compact table of empty texts without colours
+abbrev pub compact_sized : CompactSettings → (ℕ → ℕ) → ℕ → CompactTable
+compact_sized config width columns = record {
+  config = config;
+  rows = 0;
+  columns = columns;
+  width = width;
+  text = λ p. [];
+  color = λ p. None;
+}

@@ -1,5 +1,6 @@
 -- The conditions of a table, as tests.
-use Rattle.std.specs.Prelude.{ℕ, ◌+◌, ◌-◌, ◌^◌, Bool, true, not, ◌&&◌, ◌||◌, ◌==◌, nat_lt, nat_le, List, [], ◌∷◌, ◌++◌, codes, decimal, map, flat_map, find, sum_by, Option, Some, None, if◌then◌else◌}
+use Rattle.std.specs.Prelude.{ℕ, ◌+◌, ◌-◌, ◌^◌, Bool, true, not, ◌&&◌, ◌||◌, ◌==◌, nat_lt, nat_le, List, [], ◌∷◌, ◌++◌, codes, decimal, map, flat_map, find, sum_by, Option, Some, None}
+use Rattle.std.specs.Prelude.{if◌then◌else◌, ◌≡◌, ◌<◌}
 use Rattle.std.specs.List.{range_with_len, list_all}
 use Rattle.std.specs.Option.{option_map}
 use Rattle.pg_layout.specs.declared.position.Position.{Position}
@@ -84,3 +85,11 @@ compact_misfit_of t =
     if t.columns == 0 then None
     else if not (nat_lt t.columns (2 ^ 64 - 1) && nat_lt (compact_full_width t) (2 ^ 64)) then Some Totals
     else option_map (λ c. Room 0 c) (find (λ c. nat_lt (t.width c) (t.config.padding.left.size + t.config.padding.right.size)) (range_with_len 0 t.columns))
+
+-- ---- tables that fit
+
+-- what a table with rows and columns that fits gives
+pub record TableFits (t : Table) : Type 0 where
+  pub spans : spans_fit t.config.spans t.rows t.columns ≡ true
+  pub totals : totals_fit t ≡ true
+  pub rooms : (r c : ℕ) → r < t.rows → c < t.columns → owner_fits t (at r c) ≡ true

@@ -7,7 +7,7 @@ use Rattle.pg_layout.specs.declared.alignment.Formatting.{Formatting}
 use Rattle.pg_layout.specs.Colors.{Color}
 pub use Rattle.pg_config.specs.Cells.{style_of}
 use Rattle.pg_config.specs.declared.spanned.cells.CellStyle.{CellStyle}
-use Rattle.pg_picture.specs.Pieces.{Style, Piece, shown, widest, shares, lines_above, inner_width, trimmed_if, line_with, fill, written, in_color, Item, cut, color_after, item_text}
+use Rattle.pg_picture.specs.Pieces.{Style, Piece, shown, widest, shares, lines_above, inner_width, trimmed_if, line_with, fill, written, in_color, Item, cut, color_after, item_text, continued}
 use Rattle.pg_picture.specs.Pieces.{repeated, style_at}
 use Rattle.pg_picture.specs.declared.facts.BlankEnds.{BlankEnds}
 use Rattle.pg_picture.specs.declared.facts.TextFacts.{TextFacts}
@@ -19,7 +19,6 @@ use Rattle.pg_layout.specs.declared.alignment.AlignmentHorizontal.TheVariants.{L
 use Rattle.pg_config.specs.Config.{Config, get_alignment_horizontal, has_horizontal, has_equal_row_lines, default_config, has_column_lines, has_offset_chars}
 use Rattle.pg_picture.specs.declared.column_sides.ColumnSides.{ColumnSides}
 use Rattle.pg_picture.specs.CompactLines.{Part, own_or}
-use Rattle.pg_picture.specs.Joined.{continued}
 use Rattle.pg_picture.specs.Marks.{Mark}
 use Rattle.pg_picture.specs.Picture.{body_lines}
 use Rattle.pg_picture.specs.Table.{Table, Hint, Known, Unknown, is_blank_at, side_margin_at, rect_width, rect_height}

@@ -4,17 +4,13 @@ pub mod Pieces
 pub mod Table
 pub mod CompactLines
 pub mod Fits
-pub mod Joined
 pub mod Sizes
-pub mod Fitting
 pub mod Straight
 pub mod Plain
 pub mod Picture
 pub mod Samples
-pub mod CompactSizes
 pub mod Rectangles
 pub mod Grids
 pub mod Printed
 pub mod Shown
-pub mod Whole
 pub mod Inside

@@ -5,7 +5,7 @@ use Rattle.pg_layout.specs.Text.{Text}
 use Rattle.pg_picture.specs.Marks.{Mark}
 use Rattle.pg_picture.specs.Table.{Table, Hint, margin_lines, body_line, table_body}
 use Rattle.pg_picture.specs.CompactLines.{CompactTable, compact_lines}
-use Rattle.pg_picture.specs.Joined.{joined, continued}
+use Rattle.pg_picture.specs.Pieces.{joined, continued}
 
 unfoldable pub top_lines : Table → List Text
 top_lines t = let c = t.config in margin_lines t c.margin.top c.margin_offset.top c.margin_color.top

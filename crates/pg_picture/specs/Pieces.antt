@@ -1,6 +1,6 @@
 -- Pieces of a line, the block of a cell, and how colours are opened and closed along a separator.
-use Rattle.std.specs.Prelude.{ℕ, zero, suc, ◌+◌, ◌-◌, ◌*◌, ◌/◌, Bool, true, false, nat_lt, min, List, [], ◌∷◌, ◌++◌, map, flat_map, sum_by, length, replicate, slice_index_or}
-use Rattle.std.specs.Prelude.{Option, Some, None, encode_utf8, if◌then◌else◌}
+use Rattle.std.specs.Prelude.{ℕ, zero, suc, ◌+◌, ◌-◌, ◌*◌, ◌/◌, Bool, true, false, nat_lt, min, List, [], ◌∷◌, ◌++◌, map, flat_map, sum_by, length, replicate, slice_index_or, Option, Some}
+use Rattle.std.specs.Prelude.{None, encode_utf8, if◌then◌else◌}
 use Rattle.std.specs.Str.{trim}
 use Rattle.pg_layout.specs.declared.alignment.Formatting.{Formatting}
 use Rattle.pg_layout.specs.declared.alignment.AlignmentHorizontal.{AlignmentHorizontal}
@@ -9,6 +9,7 @@ use Rattle.pg_layout.specs.declared.alignment.AlignmentVertical.{AlignmentVertic
 use Rattle.pg_layout.specs.declared.alignment.AlignmentVertical.TheVariants as down
 use Rattle.pg_layout.specs.Text.{Text, lines_of, width_of, greatest, without_blank_ends}
 use Rattle.pg_layout.specs.Colors.{Color, same_color}
+
 pub use Rattle.pg_config.specs.Cells.{Style}
 unfoldable pub use Rattle.pg_config.specs.Cells.{style_at}
 
@@ -162,3 +163,19 @@ with_cuts c (item ∷ items) = cut c (color_after c item) ++ (item_text (color_a
 
 unfoldable pub separator_text : List Item → Text
 separator_text items = with_cuts None items
+
+-- ---- joined lines
+
+-- each line after a line feed
+abbrev pub fed : List Text → Text
+fed lines = flat_map (λ line. 10 ∷ line) lines
+
+-- lines joined by one line feed
+unfoldable pub joined : List Text → Text
+joined [] = []
+joined (line ∷ lines) = line ++ fed lines
+
+-- where n lines stand already
+unfoldable pub continued : ℕ → List Text → Text
+continued zero lines = joined lines
+continued (suc n) lines = fed lines

@@ -4,7 +4,7 @@ ghost use Rattle.std.specs.Prelude.{◌≡◌, ◌++◌, replicate};
 ghost use Rattle.pg_layout.specs.Colors.{str_color};
 ghost use Rattle.pg_picture.specs.Appending.{Appends};
 ghost use Rattle.pg_picture.specs.CompactLines.{compact_indent};
-ghost use Rattle.pg_picture.specs.Joined.{continued};
+ghost use Rattle.pg_picture.specs.Pieces.{continued};
 ghost use Rattle.pg_picture.specs.Inside.{feed_before, lines_before};
 
 use crate::compact_cell::push_compact_indent;

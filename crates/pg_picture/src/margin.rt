@@ -3,9 +3,8 @@
 ghost use Rattle.std.specs.Prelude.{◌≡◌, ◌++◌, replicate};
 ghost use Rattle.pg_layout.specs.Colors.{lent_color};
 ghost use Rattle.pg_picture.specs.Appending.{Appends};
-ghost use Rattle.pg_picture.specs.Joined.{continued};
+ghost use Rattle.pg_picture.specs.Pieces.{continued, written};
 ghost use Rattle.pg_picture.specs.Inside.{feed_before, lines_before, is_blank_in};
-ghost use Rattle.pg_picture.specs.Pieces.{written};
 ghost use Rattle.pg_picture.specs.Table.{margin_line, side_margin_at};
 
 use crate::fill::{push_char, push_repeated};

@@ -5,9 +5,8 @@ ghost use Rattle.pg_config.specs.Config.{get_alignment_horizontal, has_equal_row
 ghost use Rattle.pg_layout.specs.Colors.{lent_color};
 ghost use Rattle.pg_layout.specs.declared.position.Position.{Position};
 ghost use Rattle.pg_picture.specs.Appending.{Appends};
-ghost use Rattle.pg_picture.specs.Joined.{continued};
+ghost use Rattle.pg_picture.specs.Pieces.{continued, written};
 ghost use Rattle.pg_picture.specs.Inside.{items_after, last_color, lines_before, line_start, line_end, no_table, sheet_table};
-ghost use Rattle.pg_picture.specs.Pieces.{written};
 ghost use Rattle.pg_picture.specs.Table.{Table, vertical, crossing_at, border_items, margin_line, side_margin_at};
 ghost use Rattle.std.proofs.Props.{props};
 

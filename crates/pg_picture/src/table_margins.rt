@@ -2,8 +2,7 @@
 
 ghost use Rattle.std.specs.Prelude.{◌≡◌, replicate};
 ghost use Rattle.pg_picture.specs.Appending.{Appends};
-ghost use Rattle.pg_picture.specs.Pieces.{written};
-ghost use Rattle.pg_picture.specs.Joined.{continued};
+ghost use Rattle.pg_picture.specs.Pieces.{written, continued};
 ghost use Rattle.pg_picture.specs.Inside.{lines_before};
 ghost use Rattle.pg_picture.specs.Table.{margin_line, side_margin_at};
 

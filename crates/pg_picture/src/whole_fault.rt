@@ -1,7 +1,7 @@
 //! Why a table isn't printed whole.
 
 ghost use Rattle.std.specs.Prelude.{◌≡◌, Some};
-ghost use Rattle.pg_picture.specs.Whole.{whole_fault_text};
+ghost use Rattle.pg_picture.specs.Printed.{whole_fault_text};
 ghost use Rattle.pg_picture.specs.declared.whole_fault.WholeFault.{WholeFault};
 
 use crate::shown::Unshown;

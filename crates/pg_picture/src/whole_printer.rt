@@ -2,7 +2,7 @@
 
 ghost use Rattle.std.specs.Prelude.{◌≡◌, ◌++◌, ◌↔◌, Option, true, false, None, Some, Err, IsOk, OnOk, string_bytes};
 ghost use Rattle.pg_picture.specs.Shown.{unless_unshown};
-ghost use Rattle.pg_picture.specs.Whole.{PrintsWhole, PrintsWholeOrNothing};
+ghost use Rattle.pg_picture.specs.Printed.{PrintsWhole, PrintsWholeOrNothing};
 ghost use Rattle.pg_picture.specs.declared.shown.Unshown.{Unshown};
 
 use crate::shown::Unshown;

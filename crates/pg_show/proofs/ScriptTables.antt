@@ -6,8 +6,7 @@ use Rattle.pg_layout.specs.declared.position.Position.{Position}
 use Rattle.pg_layout.specs.Records.{columns_of}
 use Rattle.pg_layout.specs.Text.{Text}
 use Rattle.pg_config.specs.CompactConfig.{CompactSettings, compact_of}
-use Rattle.pg_picture.specs.CompactLines.{compact_full_width, compact_width}
-use Rattle.pg_picture.specs.CompactSizes.{compact_sized}
+use Rattle.pg_picture.specs.CompactLines.{compact_full_width, compact_width, compact_sized}
 use Rattle.pg_picture.specs.Fits.{compact_misfit_of}
 use Rattle.pg_compact.specs.CompactGrids.{compact_misfit}
 use Rattle.pg_table.specs.Natural.{natural_table}

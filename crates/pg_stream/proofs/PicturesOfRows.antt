@@ -4,23 +4,21 @@ use Rattle.std.proofs.lemmas.Bool.{cases_Bool, and_parts, and_from}
 use Rattle.std.proofs.lemmas.Bool.Decides.{nat_tests}
 use Rattle.std.proofs.lemmas.List.{length-replicate}
 use Rattle.pg_layout.specs.Text.{Text}
-use Rattle.pg_picture.specs.Joined.{continued, joined}
+use Rattle.pg_picture.specs.Pieces.{continued, joined, written, style_at}
 use Rattle.pg_picture.specs.Marks.{marks_of_row, marks_above}
 use Rattle.pg_picture.specs.Table.{Table, Hint, margin_lines, margin_line, full_width, rect_width, rect_height, total_width, table_body, Unknown}
-use Rattle.pg_picture.specs.Pieces.{written, style_at}
 use Rattle.pg_picture.specs.Picture.{top_lines, body_lines, picture_lines}
 use Rattle.pg_picture.proofs.Pictures.{length-body_lines, continued-append, picture-some}
 use Rattle.pg_stream.specs.Printing.{Printing, lines_at, lines_printed, row_lines, finish_lines, row_text, finish_text, after_row, lines_of_rows, rows_text, table_known, rows_known, hint_of, printer, rows_reached, text_known}
 use Rattle.std.specs.List.{range_with_len, list_all}
 use Rattle.pg_config.specs.Spans.{Span, owner, rect_rows}
-use Rattle.pg_picture.specs.Fits.{span_fits_columns, span_fits, all_apart, spans_fit, spans_fit_columns, body_height, totals_fit, cell_fits}
+use Rattle.pg_picture.specs.Fits.{span_fits_columns, span_fits, all_apart, spans_fit, spans_fit_columns, body_height, totals_fit, cell_fits, TableFits}
 use Rattle.pg_picture.proofs.Owners.{apart_from, Apart, owners_of, owner-ends}
 use Rattle.pg_stream.specs.Laws.{RowsMakeThePicture, texts_of, FittingTablesMayBePrinted, LiveRowsMakeThePicture}
 use Rattle.pg_stream.proofs.printer.WholePictures.{cells_at, texts_from, lines_of_rows-are, state_at, at_range, after_row-is, start_is, texts_known, row_lines-are}
 use Rattle.std.proofs.lemmas.List.FromFn.{length-map-range_with_len}
 use Rattle.pg_layout.specs.declared.position.Position.{Position}
 use Rattle.pg_layout.specs.Position.{at, is_at}
-use Rattle.pg_picture.specs.Fitting.{TableFits}
 use Rattle.pg_picture.specs.Sizes.{height_of_rect}
 use Rattle.pg_picture.proofs.FittingTables.{totals_facts, rect_inside, rect_width_fits, rect_height_fits, owner_fits-own}
 use Rattle.pg_picture.proofs.MarksOfRectangles.{length-table_body, rect_height-of_rect}

@@ -12,9 +12,8 @@ use Rattle.pg_layout.specs.Position.{at}
 use Rattle.pg_layout.specs.Text.{Text}
 use Rattle.pg_config.specs.Config.{Config, has_horizontal}
 use Rattle.pg_config.specs.Spans.{has_row_spans}
-use Rattle.pg_picture.specs.Joined.{continued}
+use Rattle.pg_picture.specs.Pieces.{continued, Item, separator_text}
 use Rattle.pg_picture.specs.Marks.{Mark, sep, line, only_if, marks_of_row, marks_above, body}
-use Rattle.pg_picture.specs.Pieces.{Item, separator_text}
 use Rattle.pg_picture.specs.Picture.{top_lines, bottom_lines, body_lines}
 use Rattle.pg_picture.specs.Sizes.{height_of_rect}
 use Rattle.pg_picture.specs.Table.{Table, Unknown, rect_width, crossing_at, body_line, table_body, margin_lines, full_width, total_width}

@@ -6,14 +6,13 @@ use Rattle.pg_layout.specs.Position.{at, is_at}
 use Rattle.pg_layout.specs.Text.{Text, lines_of, greatest}
 use Rattle.pg_config.specs.Config.{Config, has_horizontal, get_horizontal}
 use Rattle.pg_config.specs.Spans.{rect_rows, owner, rect_columns, Span, has_row_spans}
-use Rattle.pg_picture.specs.Pieces.{Piece, Item, block, style_at, block_line, written, separator_text}
+use Rattle.pg_picture.specs.Pieces.{Piece, Item, block, style_at, block_line, written, separator_text, continued}
 use Rattle.pg_picture.specs.Table.{Table, rect_width, is_inside, vertical, is_covered, crossing, horizontal_items, crossing_at, border_items, margin_line}
 use Rattle.pg_picture.specs.Sizes.{height_of_rect}
 use Rattle.pg_stream.specs.Open.{Slot, open_at_row}
 use Rattle.pg_layout.specs.LineCursor.{StandsIn, line_number}
 use Rattle.pg_picture.specs.declared.place.CellPlace.{CellPlace}
 use Rattle.pg_stream.specs.Placed.{Placed, AllOpen, IsPlaced, slot_of}
-use Rattle.pg_picture.specs.Joined.{continued}
 use Rattle.pg_picture.specs.Inside.{line_start, line_end, Keeping, IsSeparatorOf, place_in, IsOfKind}
 use Rattle.pg_layout.specs.declared.position.Position.{Position}
 use Rattle.pg_stream.specs.Conditions.{HasRoom, HaveRoom}

@@ -8,7 +8,7 @@ use Rattle.pg_config.specs.Spans.{Span}
 use Rattle.pg_picture.specs.Marks.{sep, only_if, marks_of_row}
 use Rattle.pg_picture.specs.Table.{Table, Hint, Known, Unknown}
 use Rattle.pg_picture.specs.Picture.{top_lines, bottom_lines, body_lines}
-use Rattle.pg_picture.specs.Joined.{continued}
+use Rattle.pg_picture.specs.Pieces.{continued}
 use Rattle.pg_stream.specs.Open.{Slot, slot_text, open_before}
 
 -- ---- a printer of rows

@@ -9,8 +9,7 @@ use Rattle.pg_layout.specs.Position.{at, is_at}
 use Rattle.pg_layout.specs.declared.position.Position.{Position}
 use Rattle.pg_layout.specs.Text.{Text}
 use Rattle.pg_config.specs.Spans.{owner, rect_columns}
-use Rattle.pg_picture.specs.Fits.{spans_fit, totals_fit, body_height, cell_fits, owner_fits, misfit_of}
-use Rattle.pg_picture.specs.Fitting.{TableFits}
+use Rattle.pg_picture.specs.Fits.{spans_fit, totals_fit, body_height, cell_fits, owner_fits, misfit_of, TableFits}
 use Rattle.pg_picture.specs.Pieces.{Style, style_at, widest}
 use Rattle.pg_picture.specs.Sizes.{sized}
 use Rattle.pg_picture.specs.Straight.{CellsFit, IsStraight}

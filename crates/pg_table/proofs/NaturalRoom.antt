@@ -12,8 +12,7 @@ use Rattle.pg_config.specs.Config.{Config, has_vertical, has_horizontal, count_v
 use Rattle.pg_config.specs.Spans.{Span, corner, in_span, owner, size_of, span_size, rect_rows, rect_columns}
 use Rattle.pg_config.specs.declared.spans.SpanSize.{SpanSize}
 use Rattle.pg_config.proofs.EqualLines.{rows_stay}
-use Rattle.pg_picture.specs.Fitting.{TableFits}
-use Rattle.pg_picture.specs.Fits.{span_fits, all_apart, spans_fit, totals_fit, cell_fits, owner_fits, misfit_of, body_height}
+use Rattle.pg_picture.specs.Fits.{TableFits, span_fits, all_apart, spans_fit, totals_fit, cell_fits, owner_fits, misfit_of, body_height}
 use Rattle.pg_picture.specs.Pieces.{Style, style_at, widest, shown}
 use Rattle.pg_picture.specs.Table.{Table, is_empty, rect_width, rect_height, full_width, total_width, rect_marks}
 use Rattle.pg_picture.specs.declared.fits.Misfit.TheVariants.{Spans}

@@ -7,7 +7,7 @@ use Rattle.pg_layout.specs.Position.{at, is_at}
 use Rattle.pg_layout.proofs.TextLines.{greatest-reaches}
 use Rattle.pg_config.specs.Config.{Config, has_vertical}
 use Rattle.pg_config.specs.Spans.{Span, corner, in_span, owner, size_of, span_size, rect_rows, rect_columns}
-use Rattle.pg_picture.specs.Fits.{span_fits, all_apart, spans_fit, totals_fit, cell_fits, owner_fits, misfit_of}
+use Rattle.pg_picture.specs.Fits.{span_fits, all_apart, spans_fit, totals_fit, cell_fits, owner_fits, misfit_of, TableFits}
 use Rattle.pg_picture.proofs.OwnersOfPlaces.{Among, find_cases}
 use Rattle.pg_table.specs.Natural.{is_single, cell_size, is_sized, natural_table, cells_fit}
 use Rattle.pg_table.specs.Spanning.{singles_width, room_needed, width_for}
@@ -21,7 +21,6 @@ use Rattle.pg_layout.specs.Colors.{Color}
 use Rattle.pg_layout.specs.Records.{text_at}
 use Rattle.pg_layout.specs.Text.{Text}
 use Rattle.pg_config.specs.declared.spans.SpanSize.{SpanSize}
-use Rattle.pg_picture.specs.Fitting.{TableFits}
 use Rattle.pg_picture.specs.Pieces.{style_at}
 use Rattle.pg_picture.specs.Table.{Table, rect_width, rect_height, rect_marks}
 use Rattle.pg_picture.proofs.FittingTables.{widths_fit, heights_fit, rect_inside, rect_width_fits, rect_height_fits, rect_height-one_row}

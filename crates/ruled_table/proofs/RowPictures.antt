@@ -13,7 +13,7 @@ use Rattle.pg_config.specs.Spans.{Span}
 use Rattle.pg_fit.specs.Rows.{row_height}
 use Rattle.pg_fit.proofs.LawsOfTexts.{lines_of-some}
 use Rattle.pg_picture.specs.Fits.{spans_fit}
-use Rattle.pg_picture.specs.Joined.{continued, joined}
+use Rattle.pg_picture.specs.Pieces.{continued, joined}
 use Rattle.pg_picture.specs.Picture.{picture}
 use Rattle.pg_picture.specs.Table.{Table, Unknown}
 use Rattle.pg_stream.specs.Laws.{texts_of}

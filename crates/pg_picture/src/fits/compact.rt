@@ -4,8 +4,7 @@ ghost use Rattle.std.specs.Prelude.{◌≡◌, ℕ, ◌+◌, ◌-◌, ◌<◌, n
 ghost use Rattle.std.specs.List.{range_with_len};
 ghost use Rattle.pg_layout.specs.Borders.{has_left, has_right, has_inner_vertical};
 ghost use Rattle.pg_config.specs.CompactConfig.{settings_of};
-ghost use Rattle.pg_picture.specs.CompactLines.{compact_width, compact_full_width};
-ghost use Rattle.pg_picture.specs.CompactSizes.{compact_sized};
+ghost use Rattle.pg_picture.specs.CompactLines.{compact_width, compact_full_width, compact_sized};
 ghost use Rattle.pg_picture.specs.Fits.{compact_misfit_of};
 ghost use Rattle.pg_picture.specs.Sizes.{if_fits, unless_misfit};
 

@@ -4,7 +4,7 @@ use Rattle.std.specs.List.{range_with_len}
 use Rattle.pg_layout.specs.Text.{Text}
 use Rattle.pg_config.specs.Config.{Config, has_horizontal}
 use Rattle.pg_picture.specs.Inside.{line_start, line_end, items_after, last_color}
-use Rattle.pg_picture.specs.Pieces.{Piece, written, block, cut, with_cuts, separator_text}
+use Rattle.pg_picture.specs.Pieces.{Piece, written, block, cut, with_cuts, separator_text, continued}
 use Rattle.pg_picture.specs.Table.{Table, vertical, crossing_at, margin_line}
 use Rattle.pg_picture.proofs.PiecesOfLines.{written-append, written-nil}
 use Rattle.pg_picture.proofs.Ranges.{range-more, range-cut}
@@ -19,7 +19,6 @@ use Rattle.pg_layout.proofs.TextLines.{greatest-more}
 use Rattle.pg_config.specs.Spans.{Span}
 use Rattle.pg_picture.proofs.Separators.{items_after-append, items_after-one, last_color-append, with_cuts-close}
 use Rattle.std.proofs.lemmas.Bool.Decides.{nat_tests}
-use Rattle.pg_picture.specs.Joined.{continued}
 
 -- ---- the text of a line of open cells: of no column, of some and of one more, and the line between its margins
 

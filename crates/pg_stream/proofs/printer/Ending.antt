@@ -24,9 +24,8 @@ use Rattle.std.proofs.lemmas.Bool.Decides.{nat_tests}
 use Rattle.pg_layout.specs.Position.{at}
 use Rattle.pg_layout.specs.Text.{Text}
 use Rattle.pg_config.specs.Spans.{Span, rect_rows, owner}
-use Rattle.pg_picture.specs.Joined.{continued}
+use Rattle.pg_picture.specs.Pieces.{continued, written, separator_text, Item}
 use Rattle.pg_picture.specs.Inside.{lines_before}
-use Rattle.pg_picture.specs.Pieces.{written, separator_text, Item}
 use Rattle.pg_picture.specs.Picture.{bottom_lines, body_lines}
 use Rattle.pg_picture.proofs.Pictures.{length-body_lines, continued-nil, continued-append, continued-any, none-of-two, flat_map-same}
 use Rattle.pg_picture.proofs.Owners.{owner-own, owner-ends}

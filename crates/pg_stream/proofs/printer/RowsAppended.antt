@@ -10,9 +10,8 @@ use Rattle.pg_layout.specs.Text.{Text}
 use Rattle.pg_config.specs.Config.{has_horizontal}
 use Rattle.pg_config.specs.Spans.{Span, rect_rows, owner}
 use Rattle.pg_picture.specs.Fits.{spans_fit, totals_fit}
-use Rattle.pg_picture.specs.Joined.{continued}
+use Rattle.pg_picture.specs.Pieces.{continued, written, separator_text}
 use Rattle.pg_picture.specs.Marks.{Mark, sep, line, only_if, marks_of_row, marks_above, body}
-use Rattle.pg_picture.specs.Pieces.{written, separator_text}
 use Rattle.pg_picture.specs.Picture.{top_lines, body_lines}
 use Rattle.pg_picture.specs.Table.{Table, Hint, mark_text, table_body}
 use Rattle.pg_picture.proofs.Pictures.{body_lines-append, length-body_lines, continued-append, length-top}

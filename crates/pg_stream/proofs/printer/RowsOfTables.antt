@@ -10,7 +10,7 @@ use Rattle.pg_layout.specs.Text.{Text, greatest}
 use Rattle.pg_config.specs.Config.{get_horizontal, Config, has_horizontal}
 use Rattle.pg_config.specs.Spans.{owner, is_left, Span, rect_rows}
 use Rattle.pg_picture.specs.Marks.{Mark, sep, line, only_if, marks_of_row, marks_above, body}
-use Rattle.pg_picture.specs.Pieces.{Item, block, written, separator_text}
+use Rattle.pg_picture.specs.Pieces.{Item, block, written, separator_text, continued}
 use Rattle.pg_picture.specs.Table.{Table, rect_marks, rect_height, rect_width, block_at, row_part, line_of_row, is_inside, vertical, separator_part, separator_items, column_items, crossing, is_covered, horizontal_items, Hint, Known, Unknown, crossing_at, border_glyph, is_blank_at, side_margin, mark_text, body_line, table_body, margin_lines, full_width, total_width, side_margin_at, margin_line}
 use Rattle.pg_layout.specs.declared.sides.Offset.{Offset}
 use Rattle.pg_layout.specs.declared.sides.Offset.TheVariants.{Start, End}
@@ -23,7 +23,6 @@ use Rattle.pg_picture.proofs.Owners.{Apart, owner_cases}
 use Rattle.pg_stream.specs.Printing.{row_end, rows_reached, lines_at}
 use Rattle.pg_layout.specs.declared.sides.Indent.{Indent}
 use Rattle.pg_layout.specs.Colors.{Color}
-use Rattle.pg_picture.specs.Joined.{continued}
 use Rattle.pg_picture.specs.Inside.{feed_before}
 use Rattle.pg_picture.proofs.Pictures.{body_lines-nil, continued-nil, continued-append, continued-line, none-of-two}
 use Rattle.pg_stream.specs.Inside.{open_line, line_at, open_line_at, open_lines, above_text, below_text, top_text, open_separator, draw_cell}

@@ -2,7 +2,7 @@ use Rattle.std.proofs.Common.{replicate}
 use Rattle.pg_layout.specs.Colors.{str_color}
 use Rattle.pg_picture.proofs.Appending.{Gained}
 use Rattle.pg_picture.specs.CompactLines.{compact_indent}
-use Rattle.pg_picture.specs.Joined.{continued}
+use Rattle.pg_picture.specs.Pieces.{continued}
 use Rattle.pg_picture.specs.Inside.{lines_before}
 use Rattle.pg_picture.proofs.compact_margin.push_compact_margin.Given as goal
 

@@ -1,9 +1,8 @@
 use Rattle.std.proofs.Common.{replicate}
 use Rattle.pg_layout.specs.Colors.{lent_color}
 use Rattle.pg_picture.proofs.Appending.{Gained}
-use Rattle.pg_picture.specs.Joined.{continued}
+use Rattle.pg_picture.specs.Pieces.{continued, written}
 use Rattle.pg_picture.specs.Inside.{lines_before}
-use Rattle.pg_picture.specs.Pieces.{written}
 use Rattle.pg_picture.specs.Table.{margin_line}
 use Rattle.pg_picture.proofs.margin.push_margin_lines.Given as goal
 

@@ -1,6 +1,6 @@
 use Rattle.std.proofs.Common.{◌≡◌, ◌==◌, true, ap, ◌∙◌, is_ok, arith}
 use Rattle.std.proofs.lemmas.Bool.Decides.{nat_tests}
-use Rattle.pg_picture.specs.CompactSizes.{compact_sized}
+use Rattle.pg_picture.specs.CompactLines.{compact_sized}
 use Rattle.pg_picture.specs.Fits.{compact_misfit_of}
 use Rattle.pg_picture.specs.Sizes.{unless_misfit}
 use Rattle.pg_compact.specs.CompactGrids.{compact_table}

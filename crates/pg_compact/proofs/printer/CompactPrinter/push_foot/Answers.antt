@@ -2,7 +2,7 @@ use Rattle.std.proofs.Common.{[], false, replicate, ap, ◌∙◌}
 use Rattle.pg_layout.specs.Borders.{has_bottom}
 use Rattle.pg_config.specs.CompactConfig.{side_colors}
 use Rattle.pg_picture.specs.CompactLines.{compact_indent, bottom_line}
-use Rattle.pg_picture.specs.Joined.{continued}
+use Rattle.pg_picture.specs.Pieces.{continued}
 use Rattle.pg_picture.specs.Inside.{lines_before}
 use Rattle.pg_picture.proofs.Appending.{Appends-text, ◌then◌, stopped}
 use Rattle.pg_compact.specs.Inside.{line_colors}

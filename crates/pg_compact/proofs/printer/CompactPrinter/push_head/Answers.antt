@@ -2,7 +2,7 @@ use Rattle.std.proofs.Common.{[], ◌==◌, refl, ap, ◌∙◌}
 use Rattle.pg_layout.specs.Borders.{has_top}
 use Rattle.pg_config.specs.CompactConfig.{side_colors}
 use Rattle.pg_picture.specs.CompactLines.{separator_row, line_if, top_line}
-use Rattle.pg_picture.specs.Joined.{continued}
+use Rattle.pg_picture.specs.Pieces.{continued}
 use Rattle.pg_picture.specs.Inside.{lines_before}
 use Rattle.pg_picture.proofs.Appending.{Appends-text, ◌then◌, stopped}
 use Rattle.pg_compact.specs.Inside.{printed_table, line_colors}

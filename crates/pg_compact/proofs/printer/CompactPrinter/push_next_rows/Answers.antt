@@ -2,7 +2,7 @@ use Rattle.std.proofs.Common.{◌≡◌, ◌+◌, ◌-◌, ℕ, List, Err, false
 use Rattle.std.specs.List.{range_with_len}
 use Rattle.pg_layout.specs.Text.{Text}
 use Rattle.pg_picture.specs.CompactLines.{row_lines}
-use Rattle.pg_picture.specs.Joined.{fed, continued}
+use Rattle.pg_picture.specs.Pieces.{fed, continued}
 use Rattle.pg_picture.specs.Inside.{lines_before}
 use Rattle.pg_picture.proofs.Appending.{Appends-text, Gained-text, Gained-more, Gained-all, ◌then◌, stopped, refused}
 use Rattle.pg_compact.specs.Inside.{printed_table, lines_of_row}

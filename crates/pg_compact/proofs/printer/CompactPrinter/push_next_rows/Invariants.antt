@@ -4,7 +4,7 @@ use Rattle.pg_layout.specs.Records.{Gives}
 use Rattle.pg_layout.specs.Text.{Text}
 use Rattle.pg_picture.proofs.Appending.{Gained}
 use Rattle.pg_picture.specs.CompactLines.{row_lines}
-use Rattle.pg_picture.specs.Joined.{fed}
+use Rattle.pg_picture.specs.Pieces.{fed}
 use Rattle.pg_compact.specs.Inside.{AreRows, IsInnerSeparator, printed_table}
 use Rattle.pg_compact.proofs.printer.CompactPrinter.push_next_rows.Given as goal
 

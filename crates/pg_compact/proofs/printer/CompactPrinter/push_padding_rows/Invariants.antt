@@ -2,7 +2,7 @@ use Rattle.std.proofs.Common.{[], replicate}
 use Rattle.pg_layout.specs.Colors.{str_color}
 use Rattle.pg_picture.proofs.Appending.{Gained}
 use Rattle.pg_picture.specs.CompactLines.{padding_row}
-use Rattle.pg_picture.specs.Joined.{continued}
+use Rattle.pg_picture.specs.Pieces.{continued}
 use Rattle.pg_picture.specs.Inside.{lines_before}
 use Rattle.pg_compact.specs.Inside.{printed_table}
 use Rattle.pg_compact.proofs.printer.CompactPrinter.push_padding_rows.Given as goal

@@ -1,7 +1,7 @@
 use Rattle.std.proofs.Common.{◌<◌, ◌-◌, ◌++◌, [], length, flat_map, refl, sym, ◌∙◌, arith}
 use Rattle.std.specs.List.{range_with_len}
 use Rattle.pg_picture.specs.CompactLines.{row_lines}
-use Rattle.pg_picture.specs.Joined.{continued, fed}
+use Rattle.pg_picture.specs.Pieces.{continued, fed}
 use Rattle.pg_picture.specs.Inside.{lines_before}
 use Rattle.pg_picture.proofs.Appending.{Appends-text, Gained-none, Gained-all, ◌then◌, stopped}
 use Rattle.pg_picture.proofs.FittingTables.{some_is}

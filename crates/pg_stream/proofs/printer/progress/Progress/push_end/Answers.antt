@@ -1,9 +1,8 @@
 use Rattle.std.proofs.Common.{◌≡◌, ◌∙◌, ◌==◌, ◌<◌, true, refl, ap, arith, replicate}
 use Rattle.pg_config.specs.Config.{has_horizontal}
 use Rattle.pg_picture.proofs.Appending.{◌then◌, stopped, Gained-none, Gained-all, Appends-text}
-use Rattle.pg_picture.specs.Joined.{continued}
+use Rattle.pg_picture.specs.Pieces.{continued, written}
 use Rattle.pg_picture.specs.Inside.{lines_before}
-use Rattle.pg_picture.specs.Pieces.{written}
 use Rattle.pg_picture.specs.Table.{Table, margin_line}
 use Rattle.pg_stream.specs.Inside.{IsTall}
 use Rattle.pg_stream.specs.Printers.{now_of}
