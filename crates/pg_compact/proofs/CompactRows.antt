@@ -15,7 +15,8 @@ use Rattle.pg_config.specs.CompactConfig.{CompactSettings, settings_of}
 use Rattle.pg_picture.specs.CompactLines.{CompactTable, compact_indent, colored_glyph, compact_cell_of, with_margins, between_sides, text_row, padding_row, Part, part_if, main_part, parts_after, parts, separator_row, compact_width, compact_full_width, top_line, bottom_line, inner_line, line_if, compact_margin, row_lines, compact_lines}
 use Rattle.pg_picture.proofs.Ranges.{range-more, range-cut, range-add}
 use Rattle.pg_compact.specs.declared.printer.CompactPrinter.{CompactPrinter}
-use Rattle.pg_compact.specs.Inside.{AreRows, printed_table, inner_glyph, text_column, padding_column, column_parts, lines_between, lines_of_row, head_lines, foot_lines, row_start, row_end}
+use Rattle.pg_compact.specs.Inside.{AreRows, printed_table, inner_glyph, text_column, padding_column, column_parts, lines_between, lines_of_row, head_lines, foot_lines}
+use Rattle.pg_compact.specs.RowEdges.{row_start, row_end}
 use Rattle.pg_layout.specs.declared.borders.Borders.{Borders}
 use Rattle.std.proofs.lemmas.List.Concat.{flat_map-append}
 use Rattle.pg_layout.specs.declared.borders.HorizontalLine.{HorizontalLine}

@@ -1,46 +1,20 @@
--- What only bodies and their proofs need: no contract of a call from outside stands on it.
-use Rattle.std.specs.Prelude.{◌≡◌, ◌++◌, ℕ, ◌^◌, ◌≤◌, ◌<◌, ◌==◌, All, drop, slice_index_or, List, [], ◌∷◌, length, replicate, Option, if◌then◌else◌}
-use Rattle.std.specs.Option.{ForSome, option_map}
-use Rattle.pg_layout.specs.Text.{Text}
-use Rattle.pg_config.specs.CompactConfig.{CompactSettings, settings_of}
-use Rattle.pg_picture.specs.CompactLines.{compact_indent, colored_glyph, CompactTable, compact_cell, Part, part_if, main_part, padding_row, text_row, compact_margin, line_if, separator_row}
-use Rattle.pg_picture.specs.CompactLines.{top_line, bottom_line, inner_line}
-use Rattle.pg_compact.specs.declared.row_edges.RowEdges.{RowEdges}
+-- What the printer of a compact grid draws: the rows that it is given, and the parts of its lines.
+use Rattle.std.specs.Prelude.{◌≡◌, ℕ, ◌^◌, ◌≤◌, ◌<◌, ◌==◌, All, drop, slice_index_or, List, [], ◌∷◌, ◌++◌, length, replicate, Option, if◌then◌else◌}
 use Rattle.std.specs.Iterator.{Count}
+use Rattle.std.specs.Option.{option_map}
 use Rattle.pg_layout.specs.declared.borders.HorizontalLine.{HorizontalLine}
 use Rattle.pg_layout.specs.declared.colors.ANSIStr.{ANSIStr}
 use Rattle.pg_layout.specs.declared.position.Position.{Position}
 use Rattle.pg_layout.specs.Colors.{Color, str_color}
 use Rattle.pg_layout.specs.Borders.{has_top, has_bottom, has_inner_horizontal}
 use Rattle.pg_layout.specs.Records.{text_at, AlwaysGives, Gives}
+use Rattle.pg_layout.specs.Text.{Text}
+use Rattle.pg_config.specs.CompactConfig.{settings_of}
+use Rattle.pg_picture.specs.CompactLines.{CompactTable, compact_indent, compact_cell, Part, part_if, main_part, padding_row, text_row, compact_margin, line_if, separator_row}
+use Rattle.pg_picture.specs.CompactLines.{top_line, bottom_line, inner_line}
 use Rattle.pg_picture.specs.Inside.{IsSeparatorOf}
+use Rattle.pg_compact.specs.RowEdges.{between_cells}
 use Rattle.pg_compact.specs.declared.printer.CompactPrinter.{CompactPrinter}
-
--- ---- what stands round the cells of each row of a compact table
-
--- left of a row's cells: the left margin and the left glyph
-unfoldable pub row_start : CompactSettings → Text
-row_start config =
-    let m = config.margin.left in
-    compact_indent m.fill m.size config.margin_color.left ++ colored_glyph config.borders.left config.borders_color.left
-
--- right of a row's cells: the right glyph and the right margin
-unfoldable pub row_end : CompactSettings → Text
-row_end config =
-    let m = config.margin.right in
-    colored_glyph config.borders.right config.borders_color.right ++ compact_indent m.fill m.size config.margin_color.right
-
--- between two of a row's cells
-abbrev pub between_cells : CompactSettings → Text
-between_cells config = colored_glyph config.borders.vertical config.borders_color.vertical
-
--- the texts that are kept are those round the cells
-pub record AreEdges (config : CompactSettings) (edges : RowEdges) : Type 0 where
-  pub start : ForSome edges.start (λ (text : Text). text ≡ row_start config)
-  pub between : ForSome edges.between (λ (text : Text). text ≡ between_cells config)
-  pub end : ForSome edges.end (λ (text : Text). text ≡ row_end config)
-
--- ---- what the printer of a compact grid draws: the rows that it is given, and the parts of its lines
 
 -- the table of these texts, as a printer draws it
 abbrev pub printed_table : {D C : Type 0} → (D → ℕ → ℕ) → (C → Position → Option Color) → CompactPrinter D C → List (List Text) → CompactTable
@@ -70,7 +44,7 @@ pub record AreRows {S A : Type 0} (is_row : A → List Text → Type 0) (can : S
 abbrev pub line_colors : HorizontalLine ANSIStr → HorizontalLine Color
 line_colors c = record { main = option_map str_color c.main; intersection = option_map str_color c.intersection; left = option_map str_color c.left; right = option_map str_color c.right }
 
--- -- the parts of a line
+-- ---- the parts of a line
 
 -- the glyph between a column and the one before it
 unfoldable pub inner_glyph : CompactTable → ℕ → Text

@@ -1,2 +1,3 @@
 pub mod CompactGrids
+pub mod RowEdges
 pub mod Inside

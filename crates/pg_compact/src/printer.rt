@@ -1,7 +1,7 @@
 //! What draws the lines of a compact table.
 
 ghost use Rattle.pg_config.specs.CompactConfig.{settings_of};
-ghost use Rattle.pg_compact.specs.Inside.{AreEdges};
+ghost use Rattle.pg_compact.specs.RowEdges.{AreEdges};
 
 use crate::row_edges::RowEdges;
 use pg_config::CompactConfig;

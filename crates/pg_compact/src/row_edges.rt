@@ -3,7 +3,7 @@
 ghost use Rattle.std.specs.Prelude.{◌≡◌};
 ghost use Rattle.std.specs.Option.{ForSome};
 ghost use Rattle.pg_config.specs.CompactConfig.{settings_of};
-ghost use Rattle.pg_compact.specs.Inside.{AreEdges, row_start, row_end, between_cells};
+ghost use Rattle.pg_compact.specs.RowEdges.{AreEdges, row_start, row_end, between_cells};
 
 use crate::short_text::ShortText;
 use pg_config::CompactConfig;

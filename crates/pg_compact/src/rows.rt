@@ -6,7 +6,8 @@ ghost use Rattle.pg_layout.specs.Colors.{str_color};
 ghost use Rattle.std.specs.Iterator.{IsFinite};
 ghost use Rattle.pg_picture.specs.Appending.{Appends};
 ghost use Rattle.pg_picture.specs.CompactLines.{padding_row, text_row, compact_cell_of, compact_indent};
-ghost use Rattle.pg_compact.specs.Inside.{printed_table, IsRow, inner_glyph, text_column, padding_column, row_start, row_end};
+ghost use Rattle.pg_compact.specs.Inside.{printed_table, IsRow, inner_glyph, text_column, padding_column};
+ghost use Rattle.pg_compact.specs.RowEdges.{row_start, row_end};
 ghost use Rattle.pg_config.specs.CompactConfig.{settings_of};
 
 use crate::printer::CompactPrinter;

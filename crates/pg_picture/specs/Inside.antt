@@ -29,7 +29,6 @@ use Rattle.pg_layout.specs.Keys.{by_columns, column_place}
 use Rattle.pg_layout.specs.Places.{last_before}
 use Rattle.pg_picture.specs.Fits.{are_apart}
 use Rattle.pg_layout.specs.Borders.{has_top, has_bottom, has_inner_horizontal}
-use Rattle.pg_picture.specs.declared.sheet.Sheet.{Sheet}
 use Rattle.pg_picture.specs.declared.sheet.VerticalKind.{VerticalKind}
 use Rattle.pg_picture.specs.declared.sheet.VerticalKind.TheVariants.{Absent, Whole, ByLine}
 
@@ -306,28 +305,6 @@ places_from rows columns r = flat_map (λ r. map (at r) (range_with_len 0 column
 unfoldable pub may_have_row_lines : Config → Bool
 may_have_row_lines config =
     ((has_top config.borders || has_bottom config.borders) || has_inner_horizontal config.borders) || not (has_equal_row_lines config)
-
--- ---- the table that a sheet draws, as far as it is known before its rows and texts are
-
--- a table of nothing
-abbrev pub no_table : Table
-no_table = record { config = default_config; rows = 0; columns = 0; width = λ x. 0; height = λ r. 0; text = λ p. []; color = λ p. None }
-
--- the table of so many rows and of these texts, by what a sheet's dimension and its colours stand for
-abbrev pub sheet_table : {D C B : Type 0} → ℕ → (Position → Text) → (D → ℕ → ℕ) → (D → ℕ → ℕ) → (C → Position → Option Color) → Sheet D C B → Table
-sheet_table rows text width height color sheet = record {
-  config = sheet.config.now;
-  rows = rows;
-  columns = sheet.columns;
-  width = width sheet.dimension.now;
-  height = height sheet.dimension.now;
-  text = text;
-  color = color sheet.colors.now;
-}
-
--- the same where no row and no text is known
-abbrev pub bare_table : {D C B : Type 0} → (D → ℕ → ℕ) → (D → ℕ → ℕ) → (C → Position → Option Color) → Sheet D C B → Table
-bare_table width height color sheet = sheet_table 0 (λ p. []) width height color sheet
 
 -- ---- what verticals a table has, by its configuration alone
 

@@ -9,7 +9,6 @@ use Rattle.pg_layout.specs.declared.alignment.AlignmentVertical.{AlignmentVertic
 use Rattle.pg_layout.specs.declared.alignment.AlignmentVertical.TheVariants as down
 use Rattle.pg_layout.specs.Text.{Text, lines_of, width_of, greatest, without_blank_ends}
 use Rattle.pg_layout.specs.Colors.{Color, same_color}
-
 pub use Rattle.pg_config.specs.Cells.{Style}
 unfoldable pub use Rattle.pg_config.specs.Cells.{style_at}
 

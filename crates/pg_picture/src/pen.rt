@@ -6,7 +6,8 @@ ghost use Rattle.pg_layout.specs.Colors.{lent_color};
 ghost use Rattle.pg_layout.specs.declared.position.Position.{Position};
 ghost use Rattle.pg_picture.specs.Appending.{Appends};
 ghost use Rattle.pg_picture.specs.Pieces.{continued, written};
-ghost use Rattle.pg_picture.specs.Inside.{items_after, last_color, lines_before, line_start, line_end, no_table, sheet_table};
+ghost use Rattle.pg_picture.specs.Inside.{items_after, last_color, lines_before, line_start, line_end};
+ghost use Rattle.pg_picture.specs.Grids.{no_table, sheet_table};
 ghost use Rattle.pg_picture.specs.Table.{Table, vertical, crossing_at, border_items, margin_line, side_margin_at};
 ghost use Rattle.std.proofs.Props.{props};
 

@@ -20,7 +20,7 @@ use Rattle.pg_picture.specs.Marks.{marks_above}
 use Rattle.pg_picture.specs.Table.{Table}
 use Rattle.pg_picture.proofs.Owners.{Apart, apart_from}
 use Rattle.pg_stream.specs.Inside.{IsSoundAt, first_height, height_in, IsSizedAt}
-use Rattle.pg_picture.specs.Inside.{bare_table}
+use Rattle.pg_picture.specs.Grids.{bare_table}
 use Rattle.pg_stream.specs.LiveStreams.{AppendsEnd, LentFits}
 use Rattle.pg_stream.specs.Printers.{now_of}
 use Rattle.pg_stream.specs.SizedStreams.{CountsLines, IsNextHeight}

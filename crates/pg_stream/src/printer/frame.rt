@@ -16,7 +16,7 @@ pub(crate) struct Frame<'a, D, C, B: Allocator = Global> {
 }
 
 impl<'a, D: Dimension, C: Colors, B: Allocator> Frame<'a, D, C, B> {
-    ghost use Rattle.pg_picture.specs.Inside.{bare_table};
+    ghost use Rattle.pg_picture.specs.Grids.{bare_table};
 
     // Whether the cells of a row are drawn as they come, and never open.
     #[inline(always)]

@@ -9,7 +9,7 @@ ghost use Rattle.pg_stream.specs.Conditions.{AreRowsFrom, RowFits, RowsFit};
 ghost use Rattle.pg_stream.specs.Inside.{IsSoundAt, AreOfKind};
 ghost use Rattle.pg_stream.specs.Printers.{now_of};
 ghost use Rattle.pg_stream.specs.Printing.{row_text, rows_text, finish_text, after_row};
-ghost use Rattle.pg_picture.specs.Inside.{bare_table};
+ghost use Rattle.pg_picture.specs.Grids.{bare_table};
 ghost use Rattle.pg_stream.specs.Streams.{AppendsIf};
 
 use crate::draw::{OpenCells, OpenLine, StreamedTable};

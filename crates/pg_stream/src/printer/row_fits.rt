@@ -4,7 +4,8 @@ ghost use Rattle.std.specs.Prelude.{◌≡◌, ◌+◌, ◌^◌, ◌<◌, ◌≤
 ghost use Rattle.pg_layout.specs.Position.{is_at};
 ghost use Rattle.pg_config.specs.Spans.{owner, rect_rows, rect_columns, is_left, left_span};
 ghost use Rattle.pg_picture.specs.Fits.{cell_fits, spans_fit, spans_fit_columns};
-ghost use Rattle.pg_picture.specs.Inside.{IsOfKind, bare_table};
+ghost use Rattle.pg_picture.specs.Inside.{IsOfKind};
+ghost use Rattle.pg_picture.specs.Grids.{bare_table};
 ghost use Rattle.pg_picture.specs.Marks.{marks_of_row};
 ghost use Rattle.pg_picture.specs.Pieces.{style_at};
 ghost use Rattle.pg_stream.specs.Conditions.{HasRoom, HaveRoom, RowFits};
@@ -111,7 +112,7 @@ fn ends_spans<B: Allocator>(
 }
 
 impl<'a, D: Dimension, C: Colors, B: Allocator> Frame<'a, D, C, B> {
-    ghost use Rattle.pg_picture.specs.Inside.{bare_table};
+    ghost use Rattle.pg_picture.specs.Grids.{bare_table};
 
     // If a cell spans others, no text is known to be plain.
     #[inline(always)]

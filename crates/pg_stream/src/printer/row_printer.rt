@@ -7,7 +7,7 @@ ghost use Rattle.std.specs.Iterator.{IsFinite};
 ghost use Rattle.pg_layout.specs.Records.{AlwaysGives};
 ghost use Rattle.pg_layout.specs.Text.{Text};
 ghost use Rattle.pg_picture.specs.Appending.{Appends};
-ghost use Rattle.pg_picture.specs.Inside.{bare_table};
+ghost use Rattle.pg_picture.specs.Grids.{bare_table};
 ghost use Rattle.pg_stream.specs.Conditions.{PrinterFits, RowFits};
 ghost use Rattle.pg_stream.specs.Inside.{IsSoundAt};
 ghost use Rattle.pg_stream.specs.Placed.{slots_of};
@@ -65,7 +65,7 @@ impl<'a, S: AsStr, D: Dimension, C: Colors, B: Allocator, A: Allocator> Model
     for RowPrinter<'a, S, D, C, B, A> {
     ghost use Rattle.pg_stream.specs.Inside.{IsSoundAt};
     ghost use Rattle.pg_stream.specs.Printers.{Printer, printer_of};
-    ghost use Rattle.pg_picture.specs.Inside.{bare_table};
+    ghost use Rattle.pg_picture.specs.Grids.{bare_table};
 
     ghost Value = { Printer D C };
 

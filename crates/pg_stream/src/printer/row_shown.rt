@@ -56,7 +56,7 @@ impl<'a, S: AsStr, D: Dimension, C: Colors, B: Allocator, A: Allocator> RowPrint
 }
 
 impl<'a, D: Dimension, C: Colors, B: Allocator> Frame<'a, D, C, B> {
-    ghost use Rattle.pg_picture.specs.Inside.{bare_table};
+    ghost use Rattle.pg_picture.specs.Grids.{bare_table};
     ghost use Rattle.pg_stream.specs.ShownRows.{row_cell_shows_all};
 
     fn first_unshown<S: AsStr>(&self, row: usize, cells: &[S]) -> Option<Position>

@@ -3,7 +3,7 @@
 ghost use Rattle.std.specs.Prelude.{◌≡◌, ◌↔◌, ◌<◌, true, IfSome, IsOk, IsTrue};
 ghost use Rattle.pg_picture.specs.Fits.{spans_fit};
 ghost use Rattle.pg_stream.specs.Inside.{IsSoundAt};
-ghost use Rattle.pg_picture.specs.Inside.{bare_table};
+ghost use Rattle.pg_picture.specs.Grids.{bare_table};
 ghost use Rattle.pg_stream.specs.LiveStreams.{MayEnd, AppendsEnd};
 ghost use Rattle.pg_stream.specs.Printers.{printing, now_of};
 

@@ -7,7 +7,7 @@ ghost use Rattle.std.specs.Result.{result_map_both};
 ghost use Rattle.pg_layout.specs.Records.{AlwaysGives};
 ghost use Rattle.pg_layout.specs.Text.{Text};
 ghost use Rattle.pg_stream.specs.Inside.{streamed, AreSoundAt};
-ghost use Rattle.pg_picture.specs.Inside.{bare_table};
+ghost use Rattle.pg_picture.specs.Grids.{bare_table};
 ghost use Rattle.pg_stream.specs.Streams.{held_text, HeldFits, after_push, rows_left, AppendsIf, PrintsRows, PrintsResults, PrintsRun, PrintsResultsRun, IsLeftAt};
 
 use crate::fault::{RowsFault, StreamFault};

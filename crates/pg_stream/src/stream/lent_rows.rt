@@ -8,7 +8,7 @@ ghost use Rattle.pg_layout.specs.Text.{Text};
 ghost use Rattle.pg_picture.specs.Appending.{Appends};
 ghost use Rattle.pg_stream.specs.Conditions.{RowFits};
 ghost use Rattle.pg_stream.specs.Inside.{IsSoundAt, AreOfKind, IsSingle};
-ghost use Rattle.pg_picture.specs.Inside.{bare_table};
+ghost use Rattle.pg_picture.specs.Grids.{bare_table};
 ghost use Rattle.pg_stream.specs.LiveStreams.{living, LentFits};
 ghost use Rattle.pg_stream.specs.Printers.{now_of};
 ghost use Rattle.pg_stream.specs.Printing.{row_text, after_row};

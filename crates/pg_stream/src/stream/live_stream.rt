@@ -67,7 +67,7 @@ impl<'a, S: AsStr, D: Dimension, C: Colors, B: Allocator, A: Allocator> Model
     for LiveStream<'a, S, D, C, B, A> {
     ghost use Rattle.std.specs.Prelude.{◌≡◌, false};
     ghost use Rattle.pg_stream.specs.Inside.{IsSoundAt};
-    ghost use Rattle.pg_picture.specs.Inside.{bare_table};
+    ghost use Rattle.pg_picture.specs.Grids.{bare_table};
     ghost use Rattle.pg_stream.specs.LiveStreams.{Live};
     ghost use Rattle.pg_stream.specs.Printers.{printer_of};
 

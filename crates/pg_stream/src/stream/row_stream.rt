@@ -65,7 +65,7 @@ impl<'a, S: AsStr, D: Dimension, C: Colors, B: Allocator, A: Allocator, V: Alloc
     for RowStream<'a, S, D, C, B, A, V> {
     ghost use Rattle.std.specs.Prelude.{map, option_map};
     ghost use Rattle.pg_stream.specs.Inside.{AreSoundAt};
-    ghost use Rattle.pg_picture.specs.Inside.{bare_table};
+    ghost use Rattle.pg_picture.specs.Grids.{bare_table};
     ghost use Rattle.pg_stream.specs.Printers.{printer_of};
     ghost use Rattle.pg_stream.specs.Streams.{Stream};
 

@@ -74,7 +74,7 @@ impl<'a, S: AsStr, D: Dimension, C: Colors, B: Allocator, A: Allocator> Model
     for SizedStream<'a, S, D, C, B, A> {
     ghost use Rattle.std.specs.Prelude.{◌≡◌, false};
     ghost use Rattle.pg_stream.specs.Inside.{IsSizedAt};
-    ghost use Rattle.pg_picture.specs.Inside.{bare_table};
+    ghost use Rattle.pg_picture.specs.Grids.{bare_table};
     ghost use Rattle.pg_stream.specs.LiveStreams.{Live};
     ghost use Rattle.pg_stream.specs.Printers.{printer_of};
 
@@ -270,7 +270,7 @@ impl<'a, S: AsStr + Drop, D: Dimension, C: Colors, B: Allocator, A: Allocator> S
 }
 
 impl<'a, D: Dimension, C: Colors, B: Allocator> Frame<'a, D, C, B> {
-    ghost use Rattle.pg_picture.specs.Inside.{bare_table};
+    ghost use Rattle.pg_picture.specs.Grids.{bare_table};
 
     fn with_sizes<'s, E: Dimension>(&'s self, sizes: &'s E) -> Frame<'s, E, C, B>
         ensures table { bare_table E.width E.height C.color result.sheet ≡ record (bare_table D.width D.height C.color self.now.sheet) { width = E.width sizes.now; height = E.height sizes.now } }

@@ -2,7 +2,8 @@ use Rattle.std.proofs.Common.{◌++◌, [], flat_map}
 use Rattle.std.specs.List.{range_with_len}
 use Rattle.pg_layout.specs.Colors.{str_color}
 use Rattle.pg_picture.proofs.Appending.{Appends-text, ◌then◌, stopped}
-use Rattle.pg_compact.specs.Inside.{printed_table, padding_column, row_end}
+use Rattle.pg_compact.specs.Inside.{printed_table, padding_column}
+use Rattle.pg_compact.specs.RowEdges.{row_end}
 use Rattle.pg_compact.proofs.CompactRows.{padding_row-text}
 use Rattle.pg_compact.proofs.printer.CompactPrinter.push_padding_row.Goals as goal
 

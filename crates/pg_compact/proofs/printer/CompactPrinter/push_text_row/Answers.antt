@@ -2,7 +2,8 @@ use Rattle.std.proofs.Common.{◌++◌, flat_map}
 use Rattle.std.specs.List.{range_with_len}
 use Rattle.pg_config.specs.CompactConfig.{settings_of}
 use Rattle.pg_picture.proofs.Appending.{Appends-text, ◌then◌, stopped}
-use Rattle.pg_compact.specs.Inside.{printed_table, text_column, row_end}
+use Rattle.pg_compact.specs.Inside.{printed_table, text_column}
+use Rattle.pg_compact.specs.RowEdges.{row_end}
 use Rattle.pg_compact.proofs.CompactRows.{text_row-text}
 use Rattle.pg_compact.proofs.printer.CompactPrinter.push_text_row.Goals as goal
 

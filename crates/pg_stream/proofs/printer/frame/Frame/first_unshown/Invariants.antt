@@ -1,6 +1,7 @@
 use Rattle.std.proofs.Common.{◌-◌, ◌≡◌, ◌≤◌, true, map}
 use Rattle.pg_config.specs.Spans.{is_left}
-use Rattle.pg_picture.specs.Inside.{first_failed, row_places, bare_table}
+use Rattle.pg_picture.specs.Inside.{first_failed, row_places}
+use Rattle.pg_picture.specs.Grids.{bare_table}
 use Rattle.pg_stream.specs.ShownRows.{row_cell_shows_all}
 use Rattle.pg_stream.proofs.printer.frame.Frame.first_unshown.Given as goal
 

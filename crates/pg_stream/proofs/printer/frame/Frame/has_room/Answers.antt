@@ -1,5 +1,5 @@
 use Rattle.std.proofs.Common.{sym, ◌∙◌}
-use Rattle.pg_picture.specs.Inside.{bare_table}
+use Rattle.pg_picture.specs.Grids.{bare_table}
 use Rattle.pg_stream.proofs.printer.MakingPrinters.{room-from, room-fits, room-wide, room-high}
 use Rattle.pg_stream.proofs.printer.frame.Frame.has_room.Goals as goal
 

@@ -3,7 +3,8 @@ use Rattle.std.proofs.lemmas.List.{get_or-map}
 use Rattle.pg_layout.specs.declared.position.Position.{Position}
 use Rattle.pg_layout.specs.Position.{at, is_at}
 use Rattle.pg_config.specs.Spans.{is_left, left_span, owner}
-use Rattle.pg_picture.specs.Inside.{columns_or_one, bare_table}
+use Rattle.pg_picture.specs.Inside.{columns_or_one}
+use Rattle.pg_picture.specs.Grids.{bare_table}
 use Rattle.pg_stream.specs.Conditions.{HasRoom}
 use Rattle.pg_picture.proofs.FirstPlaces.{step-some, step-inside, step-left, step-all}
 use Rattle.pg_picture.proofs.OwnersOfPlaces.{first_left}

@@ -2,7 +2,7 @@ use Rattle.std.proofs.Common.{◌-◌, ◌≡◌, ◌<◌, ◌≤◌, ℕ, true,
 use Rattle.pg_layout.specs.Position.{at, is_at}
 use Rattle.pg_config.specs.Spans.{owner, is_left}
 use Rattle.pg_stream.specs.Conditions.{HasRoom}
-use Rattle.pg_picture.specs.Inside.{bare_table}
+use Rattle.pg_picture.specs.Grids.{bare_table}
 use Rattle.pg_stream.proofs.printer.frame.Frame.have_room.Given as goal
 
 -- the owners before the column have room, and the next one has it as its left column

@@ -3,7 +3,8 @@ use Rattle.std.proofs.lemmas.Bool.{false≢true}
 use Rattle.std.proofs.lemmas.List.{get_or-map}
 use Rattle.pg_layout.specs.Position.{at}
 use Rattle.pg_layout.specs.Text.{Text}
-use Rattle.pg_picture.specs.Inside.{IsOfKind, bare_table}
+use Rattle.pg_picture.specs.Inside.{IsOfKind}
+use Rattle.pg_picture.specs.Grids.{bare_table}
 use Rattle.pg_stream.specs.Conditions.{HasRoom}
 use Rattle.pg_stream.proofs.draw.SingleLines.{fits-in, own-plain, plain-room-from, plain-room-fits, up-to}
 use Rattle.pg_stream.proofs.printer.frame.Frame.kind_if_room_alone.Goals as goal

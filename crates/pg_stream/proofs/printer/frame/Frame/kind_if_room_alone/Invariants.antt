@@ -1,6 +1,7 @@
 use Rattle.std.proofs.Common.{◌<◌, ℕ, map, slice_index_or, []}
 use Rattle.pg_layout.specs.Position.{at}
-use Rattle.pg_picture.specs.Inside.{IsOfKind, bare_table}
+use Rattle.pg_picture.specs.Inside.{IsOfKind}
+use Rattle.pg_picture.specs.Grids.{bare_table}
 use Rattle.pg_stream.specs.Conditions.{HasRoom}
 use Rattle.pg_stream.proofs.printer.frame.Frame.kind_if_room_alone.Given as goal
 

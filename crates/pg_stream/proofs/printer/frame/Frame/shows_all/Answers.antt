@@ -3,7 +3,7 @@ use Rattle.pg_picture.specs.Pieces.{style_at}
 use Rattle.pg_picture.specs.Shown.{cell_shows_all}
 use Rattle.pg_picture.specs.Sizes.{height_of_rect}
 use Rattle.pg_picture.proofs.FittingTables.{some_is, none_is}
-use Rattle.pg_picture.specs.Inside.{bare_table}
+use Rattle.pg_picture.specs.Grids.{bare_table}
 use Rattle.pg_stream.proofs.draw.OpenLists.{height-some}
 use Rattle.pg_stream.proofs.printer.frame.Frame.shows_all.Goals as goal
 

@@ -1,4 +1,4 @@
-use Rattle.pg_picture.specs.Inside.{bare_table}
+use Rattle.pg_picture.specs.Grids.{bare_table}
 use Rattle.pg_stream.proofs.printer.row_printer.RowPrinter.print_rows.Given as goal
 
 abbrev pub ghosts-push_rows : goal.ghosts-push_rows

@@ -1,4 +1,4 @@
-use Rattle.pg_picture.specs.Inside.{bare_table}
+use Rattle.pg_picture.specs.Grids.{bare_table}
 use Rattle.pg_stream.proofs.printer.row_printer.RowPrinter.row.Given as goal
 
 abbrev pub ghosts-push_row : goal.ghosts-push_row

@@ -1,7 +1,7 @@
 use Rattle.std.proofs.Common.{false, map, refl, ap}
 use Rattle.std.proofs.lemmas.Result.{err_from_is_err_and}
 use Rattle.pg_stream.specs.Conditions.{RowFits}
-use Rattle.pg_picture.specs.Inside.{bare_table}
+use Rattle.pg_picture.specs.Grids.{bare_table}
 use Rattle.pg_stream.specs.LiveStreams.{Living}
 use Rattle.pg_stream.specs.Printers.{now_of}
 use Rattle.pg_stream.specs.Printing.{Printing}

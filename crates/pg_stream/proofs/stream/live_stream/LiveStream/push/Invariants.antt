@@ -1,4 +1,4 @@
-use Rattle.pg_picture.specs.Inside.{bare_table}
+use Rattle.pg_picture.specs.Grids.{bare_table}
 use Rattle.pg_stream.proofs.stream.live_stream.LiveStream.push.Given as goal
 
 abbrev pub ghosts-push_cells : goal.ghosts-push_cells

@@ -1,4 +1,4 @@
-use Rattle.pg_picture.specs.Inside.{bare_table}
+use Rattle.pg_picture.specs.Grids.{bare_table}
 use Rattle.pg_stream.proofs.stream.row_stream.RowStream.finish.Given as goal
 
 abbrev pub ghosts-finish : goal.ghosts-finish

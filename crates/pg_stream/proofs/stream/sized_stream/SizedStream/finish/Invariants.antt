@@ -1,5 +1,5 @@
 use Rattle.pg_stream.specs.Inside.{height_in}
-use Rattle.pg_picture.specs.Inside.{bare_table}
+use Rattle.pg_picture.specs.Grids.{bare_table}
 use Rattle.pg_stream.proofs.stream.sized_stream.SizedStream.finish.Given as goal
 
 abbrev pub ghosts-close : goal.ghosts-close

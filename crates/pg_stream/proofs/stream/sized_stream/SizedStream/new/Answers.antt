@@ -2,7 +2,7 @@ use Rattle.std.proofs.Common.{◌≡◌, false, ◌∙◌, refl, sym, ap, None, 
 use Rattle.std.specs.Result.{result_err}
 use Rattle.pg_picture.specs.Sizes.{unless_misfit}
 use Rattle.pg_stream.specs.Conditions.{PrinterFits}
-use Rattle.pg_picture.specs.Inside.{bare_table}
+use Rattle.pg_picture.specs.Grids.{bare_table}
 use Rattle.pg_stream.specs.LiveStreams.{Living}
 use Rattle.pg_stream.specs.Printers.{printing}
 use Rattle.pg_stream.specs.Printing.{Printing, printer}
