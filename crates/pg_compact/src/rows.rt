@@ -47,7 +47,7 @@ impl<D: Dimension, C: Colors> CompactPrinter<'_, D, C> {
     }
 
     // What is left of a row's cells: the left margin and the left glyph.
-    #[tactic(auto, unfolding(crate::specs::Inside::RowEdges::row_start))]
+    #[tactic(auto, unfolding(crate::specs::RowEdges::row_start))]
     fn push_row_start<A: Allocator>(&self, buf: &mut String<A>) -> Result<(), AllocError>
         ensures { Appends buf.old buf.new result (row_start (settings_of self.now.config.now)) }
     {
@@ -64,7 +64,7 @@ impl<D: Dimension, C: Colors> CompactPrinter<'_, D, C> {
     }
 
     // What is right of a row's cells: the right glyph and the right margin.
-    #[tactic(auto, unfolding(crate::specs::Inside::RowEdges::row_end))]
+    #[tactic(auto, unfolding(crate::specs::RowEdges::row_end))]
     fn push_row_end<A: Allocator>(&self, buf: &mut String<A>) -> Result<(), AllocError>
         ensures { Appends buf.old buf.new result (row_end (settings_of self.now.config.now)) }
     {
@@ -130,7 +130,7 @@ impl<D: Dimension, C: Colors> CompactPrinter<'_, D, C> {
     }
 
     // The spaces of a column, after the glyph between it and the one before.
-    #[tactic(auto, unfolding(crate::specs::Inside::PrintedTable::padding_column))]
+    #[tactic(auto, unfolding(crate::specs::Inside::padding_column))]
     fn push_blank<A: Allocator>(
         &self,
         buf: &mut String<A>,
@@ -145,7 +145,7 @@ impl<D: Dimension, C: Colors> CompactPrinter<'_, D, C> {
     }
 
     // The glyph between a column and the one before it.
-    #[tactic(auto, unfolding(crate::specs::Inside::PrintedTable::inner_glyph))]
+    #[tactic(auto, unfolding(crate::specs::Inside::inner_glyph))]
     fn push_inner_glyph<A: Allocator>(
         &self,
         buf: &mut String<A>,

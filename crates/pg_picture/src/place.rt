@@ -31,7 +31,7 @@ impl CellPlace {
     /// Precondition: the cell's width has room for the side paddings and the widest line, and its
     /// height for the top padding; [`crate::fits::cell_fits`] of the text tests it for a cell with
     /// a line.
-    #[tactic(auto, unfolding(crate::specs::Inside::Cells::place_of), using(crate::proofs::Rulesets::lines_above))]
+    #[tactic(auto, unfolding(crate::specs::Inside::place_of), using(crate::proofs::Rulesets::lines_above))]
     pub fn of<A: Allocator>(
         facts: TextFacts,
         style: &CellStyle<'_, A>,

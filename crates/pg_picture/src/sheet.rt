@@ -129,7 +129,7 @@ impl<'a, D, C, B: Allocator> Sheet<'a, D, C, B> {
     }
 }
 
-#[tactic(auto, unfolding(crate::specs::Inside::RowLines::may_have_row_lines))]
+#[tactic(auto, unfolding(crate::specs::Inside::may_have_row_lines))]
 fn may_have_row_lines<B: Allocator>(config: &SpannedConfig<B>) -> bool
     ensures { result ≡ may_have_row_lines config.now }
 {
@@ -140,7 +140,7 @@ fn may_have_row_lines<B: Allocator>(config: &SpannedConfig<B>) -> bool
         || !config.has_equal_row_lines()
 }
 
-#[tactic(auto, unfolding(crate::specs::Inside::Verticals::verticals_of))]
+#[tactic(auto, unfolding(crate::specs::Inside::verticals_of))]
 fn verticals_of<B: Allocator>(config: &SpannedConfig<B>) -> VerticalKind
     ensures { result ≡ verticals_of config.now }
 {

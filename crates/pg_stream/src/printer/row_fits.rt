@@ -242,7 +242,7 @@ impl<'a, D: Dimension, C: Colors, B: Allocator> Frame<'a, D, C, B> {
         }
     }
 
-    #[tactic(auto, unfolding(crate::specs::Inside::Slots::separator_height))]
+    #[tactic(auto, unfolding(crate::specs::Inside::separator_height))]
     fn separator_lines(&self, row: usize) -> usize
         requires { row < usize.MAX }
         ensures { result ≡ separator_height self.now.sheet.config.now row }
