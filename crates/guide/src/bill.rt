@@ -12,7 +12,7 @@ use pg_table::{Table, TableFault};
 use std::alloc::Global;
 
 const ROWS: &[&[&str]] = &[
-    &["Bill", ""],
+    &["Bill"],
     &["soup", "4.20"],
     &["rice", "6.50"],
     &["total", "10.70"],
@@ -20,7 +20,7 @@ const ROWS: &[&[&str]] = &[
 
 /// A bill over two dishes.
 pub(crate) fn bill(alloc: Global) -> Result<String, TableFault> {
-    Table::new(alloc, rows_of(alloc, ROWS)?)?
+    Table::padded(alloc, rows_of(alloc, ROWS)?, "")?
         .with_borders(Borders::rounded())
         .with_padding(Sides::spaces(1, 0))
         .with_column_alignment(1, AlignmentHorizontal::Right)?

@@ -1,14 +1,15 @@
 -- Rows made of columns are of one length.
-use Rattle.std.proofs.Common.{◌≡◌, ◌==◌, ℕ, ◌<◌, ◌+◌, not, nat_lt, true, false, List, [], ◌∷◌, ◌++◌, map, length, get_or, refl, sym, ap, ◌∙◌, arith, None}
-use Rattle.std.specs.List.{position_or_len, range_with_len}
-use Rattle.std.proofs.lemmas.List.{get_or-map, length-map, map-append}
+use Rattle.std.proofs.Common.{◌≡◌, ◌==◌, ℕ, zero, suc, ◌<◌, ◌≤◌, ◌+◌, ◌-◌, max, take, drop, set, replicate, not, nat_lt, true, false, List, [], ◌∷◌, ◌++◌, map, length, get_or, refl, sym, ap, ◌∙◌, arith, None}
+use Rattle.std.specs.List.{fold, position_or_len, range_with_len}
+use Rattle.std.proofs.lemmas.List.{get_or-map, length-map, length-append, length-take, length-drop, length-replicate, map-append, map-set}
+use Rattle.std.proofs.lemmas.List.Edits.{map_over_more}
 use Rattle.std.proofs.lemmas.List.FromFn.{get_or-map-range_with_len, length-map-range_with_len, map-range_with_len_more}
 use Rattle.std.proofs.lemmas.List.Sums.{position_or_len_is}
 use Rattle.std.proofs.lemmas.Bool.Decides.{nat_tests}
 use Rattle.pg_layout.specs.Position.{at}
 use Rattle.pg_layout.specs.Records.{ragged_row, text_at}
-use Rattle.pg_layout.specs.Text.{Text}
-use Rattle.pg_table.specs.OwnRows.{transposed}
+use Rattle.pg_layout.specs.Text.{Text, greatest}
+use Rattle.pg_table.specs.OwnRows.{padded, padded_to, transposed}
 
 -- rows of one length aren't ragged
 even-none : {X : Type 0} (rows : List (List X)) (n : ℕ) → ((k : ℕ) → k < length rows → length (get_or rows k []) ≡ n) → ragged_row rows ≡ None
@@ -43,3 +44,49 @@ map-map g f (x ∷ xs) = ap (λ ys. g (f x) ∷ ys) (map-map g f xs)
 pub pushed : {X Y : Type 0} (f : X → Y) (xs : List X) (x : X) (g : ℕ → Y) (n : ℕ) → map f xs ≡ map g (range_with_len 0 n) → f x ≡ g n → map f (xs ++ x ∷ []) ≡ map g (range_with_len 0 (n + 1))
 pushed f xs x g n before is =
     map-append f xs (x ∷ []) ∙ ap (λ ys. ys ++ f x ∷ []) before ∙ ap (λ y. map g (range_with_len 0 n) ++ y ∷ []) is ∙ sym (map-range_with_len_more g 0 n n (omega arith))
+
+-- ---- rows with fillers
+
+longest-fold : {X : Type 0} (count : X → ℕ) (rows : List X) (n : ℕ) → fold (λ n row. max n (count row)) n rows ≡ max n (greatest (map count rows))
+longest-fold count [] n = omega arith
+longest-fold count (row ∷ rows) n = longest-fold count rows (max n (count row)) ∙ omega arith
+
+pub longest_is : {X : Type 0} (count : X → ℕ) (rows : List X) → fold (λ n row. max n (count row)) 0 rows ≡ greatest (map count rows)
+longest_is count rows = longest-fold count rows 0 ∙ omega arith
+
+-- none is longer
+greatest-most : {X : Type 0} (count : X → ℕ) (rows : List X) (k : ℕ) (d : X) → k < length rows → count (get_or rows k d) ≤ greatest (map count rows)
+greatest-most count [] k d h = absurd (omega (arith, h))
+greatest-most count (row ∷ rows) zero d h = omega arith
+greatest-most count (row ∷ rows) (suc k) d h = let later = greatest-most count rows k d (omega (arith, h)) in omega (arith, later)
+
+padded-even : {X : Type 0} (filler : X) (rows : List (List X)) → ragged_row (padded filler rows) ≡ None
+padded-even filler rows =
+    let n = greatest (map (λ row. length row) rows) in
+    even-none (padded filler rows) n (λ k h.
+    let here : k < length rows = omega (arith, h, length-map rows (padded_to n filler)) in
+    let row = get_or rows k [] in
+    let most : length row ≤ n = greatest-most (λ row. length row) rows k [] here in
+    ap (λ row. length row) (get_or-map (padded_to n filler) rows k [] [] here)
+    ∙ omega (arith, most, length-append row (replicate (n - length row) filler), length-replicate (n - length row) filler))
+
+-- one row more
+pub padded-more : {V X : Type 0} (items : V → X) (P : X → X) (olds : List X) (rows : List V) (k : ℕ) (old new : V) → k < length olds
+    → map items rows ≡ map P (take k olds) ++ drop k olds → old ≡ get_or rows k old → items new ≡ P (items old)
+    → map items (set rows k new) ≡ map P (take (k + 1) olds) ++ drop (k + 1) olds
+padded-more {V} {X} items P olds rows k old new within before is grown =
+    let long : length rows ≡ length olds = sym (length-map rows items) ∙ ap (λ (ys : List X). length ys) before ∙ omega (arith, length-append (map P (take k olds)) (drop k olds), length-map (take k olds) P, length-take k olds, length-drop k olds) in
+    map-set items rows k new
+    ∙ ap (λ (x : X). set (map items rows) k x) grown
+    ∙ map_over_more P olds (map items rows) k (items old) within before (ap items is ∙ sym (get_or-map items rows k old (items old) (omega (arith, within, long))))
+
+-- rows whose lengths were measured and that were then padded
+pub padded-measured : {V X : Type 0} (items : V → List X) (filler : X) (columns : ℕ) (rows measured : List V) (new : List (List X)) → columns ≡ greatest (map (λ row. length (items row)) measured) → measured ≡ rows
+    → new ≡ map (padded_to columns filler) (map items rows) → new ≡ padded filler (map items rows)
+padded-measured items filler columns rows measured new is same all =
+    let longest : columns ≡ greatest (map (λ row. length row) (map items rows)) =
+    is ∙ ap (λ rows. greatest (map (λ row. length (items row)) rows)) same ∙ ap (λ ns. greatest ns) (sym (map-map (λ row. length row) items rows)) in
+    all ∙ ap (λ n. map (padded_to n filler) (map items rows)) longest
+
+pub padded-none : {X : Type 0} (filler : X) (rows new : List (List X)) → new ≡ padded filler rows → ragged_row new ≡ None
+padded-none filler rows new is = ap (λ rows. ragged_row rows) is ∙ padded-even filler rows

@@ -1,11 +1,11 @@
 -- A table with rows of its own: its sizes, and the tables that its settings make of it.
-use Rattle.std.specs.Prelude.{ℕ, List, map, length, Option}
+use Rattle.std.specs.Prelude.{ℕ, ◌-◌, ◌++◌, List, map, length, replicate, Option}
 use Rattle.pg_layout.specs.declared.alignment.AlignmentHorizontal.{AlignmentHorizontal}
 use Rattle.pg_layout.specs.declared.borders.Borders.{Borders}
 use Rattle.pg_layout.specs.declared.borders.HorizontalLine.{HorizontalLine}
 use Rattle.pg_layout.specs.declared.position.Entity.{Entity}
 use Rattle.pg_layout.specs.Records.{columns_of, text_at}
-use Rattle.pg_layout.specs.Text.{Text}
+use Rattle.pg_layout.specs.Text.{Text, greatest}
 use Rattle.pg_config.specs.Settings.{with_setting}
 use Rattle.pg_table.specs.Panels.{with_span_crossings}
 use Rattle.pg_table.specs.Natural.{natural_sizes}
@@ -19,6 +19,14 @@ use Rattle.pg_layout.specs.Position.{at}
 -- the texts of so many columns, where row c is column c
 abbrev pub transposed : List (List Text) → ℕ → List (List Text)
 transposed texts columns = map (λ c. map (λ r. text_at texts (at r c)) (range_with_len 0 (length texts))) (range_with_len 0 columns)
+
+-- a row of at least so many cells, with fillers behind its own
+abbrev pub padded_to : {T : Type 0} → ℕ → T → List T → List T
+padded_to columns filler row = row ++ replicate (columns - length row) filler
+
+-- rows that are all as long as the longest of them
+abbrev pub padded : {T : Type 0} → T → List (List T) → List (List T)
+padded filler rows = map (padded_to (greatest (map (λ row. length row) rows)) filler) rows
 
 -- ---- rows made of other rows
 

@@ -1,15 +1,42 @@
-//! The rows of a table: how many there are, one more, and their texts.
+//! The rows of a table: those of several lengths, one more, how many there are, and their texts.
 
-ghost use Rattle.std.specs.Prelude.{◌≡◌, ◌&&◌, ◌++◌, ◌∷◌, [], ℕ, is_some, length, nat_lt, None, Some, Err, IfSome, OnErr, OnOk};
+ghost use Rattle.std.specs.Prelude.{◌≡◌, ◌&&◌, ◌++◌, ◌∷◌, [], ℕ, is_some, length, map, nat_lt, None, Some, Err, IfOk, IfSome, OnErr, OnOk};
 ghost use Rattle.pg_layout.specs.Records.{columns_of, ragged_row, text_at};
+ghost use Rattle.pg_layout.specs.Text.{greatest};
 ghost use Rattle.pg_table.specs.Even.{IsNarrowLook};
-ghost use Rattle.pg_table.specs.OwnRows.{texts_of};
+ghost use Rattle.pg_table.specs.OwnRows.{padded, padded_to, texts_of};
+ghost use Rattle.pg_table.specs.Printing.{ascii_config};
 
 use crate::fault::TableFault;
 use crate::table::Table;
 use pg_layout::{PeekableRecords, Position, PushFault, VecRecords};
-use std::alloc::Allocator;
+use std::alloc::{AllocError, Allocator};
 use std::convert::AsStr;
+
+impl<T: AsStr + Drop + Copy, A: Allocator + Copy> Table<T, A> {
+    /// A table of rows that may differ in length: a row that is shorter than the longest one gets
+    /// fillers, such as `""`, behind its cells. Otherwise like [`Table::new`].
+    ///
+    /// Allocates only for rows that grow. The only error is `Memory`, after which the rows are
+    /// dropped.
+    ///
+    /// ```text
+    /// let table = Table::padded(alloc, vec![in alloc; heading, lunch, dinner]?, "")?;
+    /// ```
+    pub fn padded(
+        alloc: A,
+        mut rows: Vec<Vec<T, A>, A>,
+        filler: T,
+    ) -> Result<Table<T, A>, TableFault>
+        ensures table { IfOk result (λ table. table ≡ record { rows = padded filler (map (λ row. row.items) rows.items); config = ascii_config; colors = [] }) }
+        ensures memory { (fault : TableFault) → result ≡ Err fault → fault ≡ TableFault.Memory }
+        ensures narrow { IfOk result (λ table. IsNarrowLook table.config) }
+    {
+        let columns = longest(&rows);
+        pad(&mut rows, columns, filler)?;
+        Table::new(alloc, rows)
+    }
+}
 
 impl<T: Drop, A: Allocator> Table<T, A> {
     /// Adds a row below the others: a vector of as many texts as the other rows have. Settings and
@@ -72,4 +99,37 @@ impl<T: AsStr + Drop, A: Allocator> Table<T, A> {
     {
         &self.records
     }
+}
+
+// The length of the longest row, or 0 without rows.
+fn longest<T, A: Allocator>(rows: &[Vec<T, A>]) -> usize
+    ensures { result ≡ greatest (map (λ row. length row.items) rows.now) }
+{
+    rows.iter().fold(0, |columns, row| columns.max(row.len()))
+}
+
+// Gives each row at least so many cells.
+fn pad<T: Drop + Copy, A: Allocator>(
+    rows: &mut Vec<Vec<T, A>, A>,
+    columns: usize,
+    filler: T,
+) -> Result<(), AllocError>
+    ensures { OnOk result (map (λ row. row.items) rows.new.items ≡ map (padded_to columns filler) (map (λ row. row.items) rows.old.items)) }
+{
+    for row in 0..rows.len() {
+        pad_row(&mut rows[row], columns, filler)?;
+    }
+    Ok(())
+}
+
+// Gives a row at least so many cells.
+fn pad_row<T: Drop + Copy, A: Allocator>(
+    row: &mut Vec<T, A>,
+    columns: usize,
+    filler: T,
+) -> Result<(), AllocError>
+    ensures { OnOk result (row.new.items ≡ padded_to columns filler row.old.items) }
+{
+    let cells = row.len().max(columns);
+    row.resize(cells, filler)
 }
