@@ -34,7 +34,7 @@ use std::io::{BufRead, Lock};
 use std::process::ExitCode;
 
 // The programs that read no input.
-const NAMES: [&str; 16] = [
+const NAMES: [&str; 17] = [
     "price_list",
     "invoice",
     "titled",
@@ -43,6 +43,7 @@ const NAMES: [&str; 16] = [
     "bill",
     "shifts",
     "shifts_page",
+    "shifts_notes",
     "files",
     "record_blocks",
     "levels",
@@ -112,6 +113,7 @@ fn table_of(alloc: Global, name: &str) -> Result<String, Fault> {
         "bill" => bill::bill(alloc),
         "shifts" => shifts::list(alloc),
         "shifts_page" => shifts::page(alloc),
+        "shifts_notes" => shifts::notes(alloc),
         "files" => files::files(alloc),
         "record_blocks" => record_blocks::blocks(alloc),
         "levels" => levels::log(alloc),

@@ -1,4 +1,4 @@
-//! A list of shifts: a day is one cell, lines fill 30 terminal columns, and the same as HTML.
+//! A list of shifts: a day is one cell, lines fill 30 terminal columns, and the same as HTML and as Markdown.
 //!
 //! ```text
 //! │Monday │early│Ada           │
@@ -28,6 +28,11 @@ pub(crate) fn list(alloc: Global) -> Result<String, TableFault> {
 /// The shifts as HTML.
 pub(crate) fn page(alloc: Global) -> Result<String, TableFault> {
     Ok(shifts(alloc)?.to_html(alloc)?)
+}
+
+/// The shifts as Markdown.
+pub(crate) fn notes(alloc: Global) -> Result<String, TableFault> {
+    Ok(shifts(alloc)?.to_markdown(alloc)?)
 }
 
 // The table, in which each day is one cell.

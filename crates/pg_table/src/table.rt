@@ -20,6 +20,7 @@ mod crossings;
 mod filling;
 mod html;
 mod lines;
+mod markdown;
 mod merging;
 mod rows;
 mod settings;
