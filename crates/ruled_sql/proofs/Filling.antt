@@ -14,7 +14,7 @@ use Rattle.ruled_sql.specs.declared.fault.QueryFault.{QueryFault}
 use Rattle.ruled_sql.specs.declared.fault.QueryFault.TheVariants.{Change, Encoding, Limit, Memory, Refused}
 use Rattle.ruled_sql.specs.declared.fault.SqlFault.{SqlFault}
 use Rattle.ruled_sql.specs.declared.fault.SqlFault.TheVariants as sql
-use Rattle.ruled_sql.specs.Filled.{AreCut, AreRun, IsBlank, IsFaultOfStep, IsFilled, IsRun, IsStuck, IsUnfilled, LacksQueried, LacksTable, Step, columns_text, filling, insertions, names_no_table, steps, values_of}
+use Rattle.ruled_sql.specs.Filled.{AreCut, AreRun, IsBlank, IsCalled, IsCalledBy, IsFaultOfStep, IsFilled, IsRun, IsStuck, IsUnfilled, LacksQueried, LacksTable, Step, columns_text, filling, insertions, names_no_table, steps, values_of}
 use Rattle.sqlite.specs.declared.error.Error.{Error}
 
 -- ---- fields
@@ -141,9 +141,14 @@ pub unfilled-by : (create : Step) (others : List Step) (made : Held MemStore) �
     → LacksTable (create ∷ others) fault
 unfilled-by create others made from error fault of cut = unfilled (create ∷ others) from.0 from.1 error fault of (λ sound. cut-behind (create ∷ []) others from.0 made error from.2 (cut sound))
 
+-- a table that can't have its own name
+pub called-input : (name query text creation : List ℕ) (fault : SqlFault) (error : Error) → text ≡ creation → fault ≡ sql.Columns error → LacksTable ((text, []) ∷ []) fault → IsCalledBy ((creation, []) ∷ []) name query (codes "input")
+called-input name query text creation fault error same is lacks =
+    inr (refl, inr (error, subst (λ (it : List ℕ). IsUnfilled ((it, []) ∷ []) error) same (subst (λ (it : SqlFault). LacksTable ((text, []) ∷ []) it) is lacks)))
+
 -- ---- why a query has no answer of a table
 
-module _ (name called : List ℕ) (table : List (List (List ℕ))) (query : List ℕ) (most : ℕ) (either : (called ≡ name) ⊎ (called ≡ codes "input")) where
+module _ (name called : List ℕ) (table : List (List (List ℕ))) (query : List ℕ) (most : ℕ) (either : IsCalled name table query called) where
   pub lacks-table : (all : List Step) → all ≡ steps called table → (fault : SqlFault) → LacksTable all fault → LacksQueried name table query most fault
   lacks-table all is sql.Database lacks = absurd lacks
   lacks-table all is sql.Damage lacks = absurd lacks

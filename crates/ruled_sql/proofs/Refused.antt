@@ -21,11 +21,17 @@ use Rattle.sqlite.specs.Clock.{timed}
 use Rattle.sqlite.specs.Closing.{files_left}
 use Rattle.sqlite.specs.Does.{Does, Tally as Made}
 use Rattle.sqlite.specs.Effect.{Database, RefusesToRead}
+use Rattle.sqlite.specs.Listing.{misses_table, understood}
+use Rattle.sqlite.specs.Outline.{Outline}
+use Rattle.sqlite.specs.Steps.{Outlines}
+use Rattle.sqlite_resolve.specs.declared.error.CompileError.{CompileError}
+use Rattle.sqlite_resolve.specs.declared.error.CompileError.TheVariants as compile
+use Rattle.ruled_sql.specs.Filled.{is_no_table}
 use Rattle.sqlite.specs.Files.{FailsToOpenFiles, HoldsDatabase, IsCleanLeft, tally_left}
 use Rattle.sqlite.specs.Opening.{FailsAs}
-use Rattle.sqlite.specs.State.{FailsToQuery, FailsToShow, HasCause, IsMisplaced, IsNotRun, IsStatement, MayChange, RunsCommand, State, mode_of, store_error, text_of}
+use Rattle.sqlite.specs.State.{FailsToQuery, FailsToShow, HasCause, IsMisplaced, IsNoStatement, IsNotRun, IsStatement, MayChange, RunsCommand, State, mode_of, store_error, text_of}
 use Rattle.sqlite.specs.declared.error.Error.{Error}
-use Rattle.sqlite.specs.declared.error.Error.TheVariants.{SqliteFailure}
+use Rattle.sqlite.specs.declared.error.Error.TheVariants.{InvalidParameterCount, MultipleStatement, SqlInputError, SqliteFailure}
 use Rattle.sqlite.specs.declared.error.ErrorCode.TheVariants as code
 use Rattle.sqlite.specs.declared.file.Leftover.{Leftover}
 use Rattle.sqlite.specs.declared.file.Leftover.TheVariants as left
@@ -226,3 +232,52 @@ handed P (Err fault) found told h = subst P (sym told) h
 pub lost : {X : Type 0} (P : Error → Type 0) (result : Result X Error) → IsErrAnd result (λ error. error ≡ SqliteFailure code.OutOfMemory) → IfErr result (λ error. is_memory error ≡ false → P error)
 lost P (Ok x) told = absurd told
 lost P (Err error) told = λ sound. absurd (true≢false (sym (ap is_memory told) ∙ sound))
+
+-- ---- statements that aren't prepared
+
+-- the store fails by memory, unless something is too big
+sound-cause : (old new : State) (error : Error) (cause : StoreError) → error ≡ store_error cause → HasCause old new ⊥ cause → is_memory error ≡ false → ⊥
+sound-cause old new error OutOfMemory same h sound = true≢false (sym (ap is_memory same) ∙ sound)
+sound-cause old new error Io same h sound = true≢false (sym (ap is_memory same) ∙ sound)
+sound-cause old new error Corrupt same h sound = true≢false (sym (ap is_memory same) ∙ sound)
+sound-cause old new error Full same h sound = true≢false (sym (ap is_memory same) ∙ sound)
+sound-cause old new error Broken same h sound = true≢false (sym (ap is_memory same) ∙ sound)
+sound-cause old new error Unstorable same h sound = h
+
+-- the text isn't understood
+without : (old new : State) (query : List ℕ) (error : Error) → IsNotRun old new query [] error → is_memory error ≡ false → IsNoStatement old query [] error
+unfolding IsNotRun
+without old new query error (inl h) sound = h.0
+without old new query error (inr h) sound = absurd (sound-cause old new error h.0 h.1 h.2 sound)
+
+-- a table is missing if that is the error
+no-table : (fault : CompileError) → misses_table (Err fault) ≡ is_no_table (SqlInputError fault)
+no-table compile.NoSuchTable = refl
+no-table compile.OutOfMemory = refl
+no-table (compile.Parse e) = refl
+no-table compile.NoSuchIndex = refl
+no-table compile.NoSuchColumn = refl
+no-table compile.NoSuchFunction = refl
+no-table compile.Ambiguous = refl
+no-table compile.Exists = refl
+no-table compile.Misuse = refl
+no-table compile.Mismatch = refl
+no-table compile.Unsupported = refl
+no-table compile.TooBig = refl
+no-table (compile.NeedsView at) = refl
+
+other : (A B C : Type 0) (n m : ℕ) (error : Error) → (A × (error ≡ MultipleStatement)) ⊎ ((B × (error ≡ InvalidParameterCount n m)) ⊎ (C × (error ≡ SqliteFailure code.NoClock))) → is_no_table error ≡ false
+other A B C n m error (inl h) = ap is_no_table h.1
+other A B C n m error (inr (inl h)) = ap is_no_table h.1
+other A B C n m error (inr (inr h)) = ap is_no_table h.1
+
+lacking : (s : State) (query : List ℕ) (error : Error) → IsNoStatement s query [] error → is_no_table error ≡ misses_table (understood s.now.schema query)
+lacking s query error (inl h) = ap is_no_table h.2 ∙ sym (ap misses_table h.1 ∙ no-table h.0)
+lacking s query error (inr h) = other _ _ _ _ _ error h.2 ∙ sym (ap misses_table h.1)
+
+pub lacks-table : (old new : State) (query : List ℕ) (error : Error) → IsNotRun old new query [] error → is_memory error ≡ false → is_no_table error ≡ misses_table (understood old.now.schema query)
+lacks-table old new query error h sound = lacking old query error (without old new query error h sound)
+
+pub has-tables : (known : Result Compiled CompileError) (it : Outline) → Outlines known it → false ≡ misses_table known
+has-tables (Ok c) it outlines = refl
+has-tables (Err error) it outlines = absurd outlines

@@ -12,6 +12,7 @@ use Rattle.sqlite_trees.specs.declared.memory.MemStore.{MemStore}
 use Rattle.sqlite_resolve.specs.declared.error.CompileError.TheVariants.{NoSuchTable}
 use Rattle.sqlite.specs.Effect.{Database}
 use Rattle.sqlite.specs.Held.{Held, IsNew, state}
+use Rattle.sqlite.specs.Listing.{misses_table, understood}
 use Rattle.sqlite.specs.State.{Executes}
 use Rattle.sqlite.specs.Steps.{IsEmpty, over_memory}
 use Rattle.sqlite.specs.declared.error.Error.{Error}
@@ -173,10 +174,22 @@ IsFilled all connection = (blank : Held MemStore) × IsBlank blank × AreRun all
 abbrev pub IsUnfilled : List Step → Error → Type 0
 IsUnfilled all error = (blank : Held MemStore) × IsBlank blank × AreCut all blank error
 
+-- the steps lead to a database that lacks a table of the query, or none of them
+abbrev pub IsLacking : List Step → List ℕ → Bool → Type 0
+IsLacking all query lacks = (made : Held MemStore) × IsFilled all made × (misses_table (understood (state over_memory made).now.schema query) ≡ lacks)
+
+-- a table has its own name where that is the only one that the query needs, and else is called `input`
+abbrev pub IsCalledBy : List Step → List ℕ → List ℕ → List ℕ → Type 0
+IsCalledBy creation name query called =
+    ((called ≡ name) × IsLacking creation query false) ⊎ ((called ≡ codes "input") × (IsLacking creation query true ⊎ ((error : Error) × IsUnfilled creation error)))
+
+abbrev pub IsCalled : List ℕ → List (List (List ℕ)) → List ℕ → List ℕ → Type 0
+IsCalled name table query called = IsCalledBy (take 1 (steps name table)) name query called
+
 -- the rows that a query answers of a table of rows, which has this name or is called `input`, in so many steps at most
 pub record AreQueried (name : List ℕ) (table : List (List (List ℕ))) (query : List ℕ) (most : ℕ) (rows : List (List (List ℕ))) : Type 0 where
   pub called : List ℕ
-  pub either : (called ≡ name) ⊎ (called ≡ codes "input")
+  pub either : IsCalled name table query called
   pub connection : Held MemStore
   pub filled : IsFilled (steps called table) connection
   pub names : List (List ℕ)
@@ -197,19 +210,24 @@ IsFaultOfStep error (sql.Columns found) = (found ≡ error) × (is_memory error 
 IsFaultOfStep error sql.Memory = ⊤
 IsFaultOfStep error fault = ⊥
 
+-- an error says that a table is missing
+abbrev pub is_no_table : Error → Bool
+is_no_table (SqlInputError NoSuchTable) = true
+is_no_table error = false
+
 abbrev pub names_no_table : QueryFault → Bool
 names_no_table (Refused (SqlInputError NoSuchTable)) = true
 names_no_table fault = false
 
 -- the query is asked of a database that the table fills
-abbrev pub IsAsked : List ℕ → List (List (List ℕ)) → (Database → Type 0) → Type 0
-IsAsked name table Lacks = (called : List ℕ) × ((called ≡ name) ⊎ (called ≡ codes "input")) × (connection : Held MemStore) × IsFilled (steps called table) connection × Lacks (state over_memory connection).now
+abbrev pub IsAsked : List ℕ → List (List (List ℕ)) → List ℕ → (Database → Type 0) → Type 0
+IsAsked name table query Lacks = (called : List ℕ) × IsCalled name table query called × (connection : Held MemStore) × IsFilled (steps called table) connection × Lacks (state over_memory connection).now
 
 -- why a query has no answer of a table of rows, unless memory was refused
 abbrev pub LacksQueried : List ℕ → List (List (List ℕ)) → List ℕ → ℕ → SqlFault → Type 0
 LacksQueried name table query most sql.NoRows = table ≡ []
-LacksQueried name table query most (sql.Columns error) = (called : List ℕ) × ((called ≡ name) ⊎ (called ≡ codes "input")) × IsUnfilled (steps called table) error
-LacksQueried name table query most sql.NoTable = IsAsked name table (λ db. (fault : QueryFault) × (names_no_table fault ≡ true) × LacksAnswer query most db fault)
-LacksQueried name table query most (sql.Query fault) = (names_no_table fault ≡ false) × IsAsked name table (λ db. LacksAnswer query most db fault)
+LacksQueried name table query most (sql.Columns error) = (called : List ℕ) × IsCalled name table query called × IsUnfilled (steps called table) error
+LacksQueried name table query most sql.NoTable = IsAsked name table query (λ db. (fault : QueryFault) × (names_no_table fault ≡ true) × LacksAnswer query most db fault)
+LacksQueried name table query most (sql.Query fault) = (names_no_table fault ≡ false) × IsAsked name table query (λ db. LacksAnswer query most db fault)
 LacksQueried name table query most sql.Memory = ⊤
 LacksQueried name table query most fault = ⊥

@@ -1,7 +1,10 @@
 //! A database that rows fill.
 
-ghost use Rattle.std.specs.Prelude.{◌≡◌, ◌⊎◌, [], ◌∷◌, codes, false, map, IfErr, IfOk, OnOk};
+ghost use Rattle.std.specs.Prelude.{◌≡◌, [], ◌∷◌, false, map, IfErr, IfOk, OnOk};
 ghost use Rattle.csv.specs.Records.{fields_of};
+ghost use Rattle.sqlite.specs.Held.{state};
+ghost use Rattle.sqlite.specs.Listing.{misses_table, understood};
+ghost use Rattle.sqlite.specs.Steps.{over_memory};
 ghost use Rattle.sqlite.specs.Values.{bound, bound_value};
 ghost use Rattle.sqlite_value.specs.Value.{owned};
 ghost use Rattle.ruled_sql.specs.Answers.{is_memory};
@@ -128,15 +131,25 @@ fn created(alloc: Global, text: &str) -> Result<Connection<MemStore>, SqlFault>
     }
 }
 
-// Whether this statement makes a table, and a query names no other one.
-fn has_tables(alloc: Global, text: &str, query: &str) -> bool {
-    match created(alloc, text) {
-        Ok(mut connection) => !matches!(
-            connection.prepare(query),
-            Err(Error::SqlInputError(CompileError::NoSuchTable))
-        ),
-        Err(_) => false,
+// Whether an error says that a table is missing.
+fn is_no_table(error: Error) -> bool
+    ensures { result ≡ spec.is_no_table error }
+{
+    matches!(error, Error::SqlInputError(CompileError::NoSuchTable))
+}
+
+// Whether a query names a table that a database lacks.
+fn lacks_table(connection: &mut Connection<MemStore>, query: &str) -> Result<bool, AllocError>
+    ensures { IfOk result (λ lacks. lacks ≡ misses_table (understood (state over_memory connection.old).now.schema query.now)) }
+{
+    let error = match connection.prepare(query) {
+        Ok(_) => return Ok(false),
+        Err(error) => error,
+    };
+    if is_memory(error) {
+        return Err(AllocError);
     }
+    Ok(is_no_table(error))
 }
 
 /// The name of the table for a query: the given one, or `input` where no table has that name, or the query names another.
@@ -146,13 +159,19 @@ pub(crate) fn name_for<'a>(
     columns: &str,
     query: &str,
 ) -> Result<&'a str, AllocError>
-    ensures { IfOk result (λ called. (called.now ≡ name.now) ⊎ (called.now ≡ codes "input")) }
+    ensures { IfOk result (λ called. spec.IsCalledBy ((spec.create_text name.now columns.now, []) ∷ []) name.now query.now called.now) }
 {
     let text = create_text(alloc, name, columns)?;
-    if has_tables(alloc, text.as_str(), query) {
-        return Ok(name);
+    let mut connection = match created(alloc, text.as_str()) {
+        Ok(connection) => connection,
+        Err(SqlFault::Columns(_)) => return Ok("input"),
+        Err(_) => return Err(AllocError),
+    };
+    let lacks = lacks_table(&mut connection, query)?;
+    if lacks {
+        return Ok("input");
     }
-    Ok("input")
+    Ok(name)
 }
 
 /// A database with a table of these columns, so many, and rows, over which no row counts as changed.
