@@ -1,5 +1,5 @@
 -- What is known of the statements that fill a table, and of what they lead to.
-use Rattle.std.proofs.Common.{◌≡◌, ◌<◌, ◌+◌, ◌∙◌, ◌∷◌, ◌++◌, ℕ, zero, suc, [], List, length, map, take, drop, get_or, slice_index_or, flat_map, codes, Bool, true, false, if◌then◌else◌, ◌⊎◌, None, Some, inl, inr, refl, sym, ap, ap₂, subst, arith}
+use Rattle.std.proofs.Common.{◌≡◌, ◌<◌, ◌+◌, ◌∙◌, ◌∷◌, ◌++◌, ℕ, zero, suc, [], List, length, map, take, drop, get_or, slice_index_or, flat_map, codes, Bool, true, false, if◌then◌else◌, None, Some, inl, inr, refl, sym, ap, ap₂, subst, arith}
 use Rattle.std.specs.List.{join_by}
 use Rattle.std.specs.Prelude.{OnOk, Result, Ok, Err}
 use Rattle.std.proofs.lemmas.List.{append_assoc, map-append, take-append-drop, take_all, take_more}
