@@ -1,10 +1,10 @@
 -- Rows that are written when all of them are there, and a run at once and one row by row.
 use Rattle.std.proofs.Common.{◌≡◌, ◌∙◌, ◌<◌, ℕ, Bool, true, false, List, [], ◌∷◌, ◌++◌, Option, Some, None, is_some, Result, Ok, Err, OnErr, OnOk, drop, length, map, refl, sym, ap, subst, arith}
-use Rattle.std.specs.Prelude.{IfErr, IfOk, not, IfSome, if◌then◌else◌}
+use Rattle.std.specs.Prelude.{◌==◌, IfErr, IfOk, not, IfSome, if◌then◌else◌}
 use Rattle.std.specs.List.{flat_map}
 use Rattle.std.specs.Option.{option_or}
 use Rattle.std.specs.Io.KnownBytes.{Appends}
-use Rattle.std.specs.Result.{IsErrAnd, result_err}
+use Rattle.std.specs.Result.{IsErrAnd, result_and, result_err}
 use Rattle.std.proofs.KnownBytes.{Appends-nil, Appends-trans, Keeps-refl}
 use Rattle.std.proofs.lemmas.Bool.{false≢true, true≢false}
 use Rattle.pg_layout.specs.Text.{Text}
@@ -16,7 +16,7 @@ use Rattle.ruled_table.specs.Layouts.{layout_fault, layout_of, start_fault, whol
 use Rattle.ruled_table.specs.Arranged.{arranged, chosen_fault, chosen_rows, sort_fault}
 use Rattle.ruled_table.specs.Plans.{Plan, is_always, is_in_blocks, leaves_columns_out}
 use Rattle.ruled_table.specs.RowLines.{begun_text}
-use Rattle.ruled_table.specs.View.{all_fault, all_text, measured_fault, shows_blocks, table_fault, whole_fault, whole_table}
+use Rattle.ruled_table.specs.View.{all_excess, all_fault, all_text, excess_of, measured_fault, shows_blocks, table_fault, whole_fault, whole_table}
 use Rattle.ruled_table.specs.declared.fault.ViewFault.{ViewFault}
 use Rattle.ruled_table.specs.declared.fault.ViewFault.TheVariants as view
 use Rattle.ruled_table.specs.declared.options.Options.{Options}
@@ -26,14 +26,15 @@ use Rattle.ruled_table.specs.declared.table_rows.TableRows.{TableRows}
 use Rattle.ruled_io.specs.Faults.{is_early, is_of_write, is_read, of_view, read_part}
 use Rattle.ruled_io.specs.Reading.{ReportsRead}
 use Rattle.ruled_io.specs.Steps.{Draws, DrawsInMemory, EndsBelow, Nears, WritesRows}
-use Rattle.ruled_io.specs.Output.{Begins}
+use Rattle.ruled_io.specs.Output.{Begins, TellsWrite, failure_in}
 use Rattle.ruled_io.specs.declared.fault.ReadFault.{ReadFault}
 use Rattle.ruled_io.specs.declared.fault.RunFault.{RunFault}
 use Rattle.ruled_io.specs.declared.fault.RunFault.TheVariants.{Input, Read, Closed, Write}
 use Rattle.ruled_table.proofs.Tables.{chosen-named as tables-named}
 use Rattle.ruled_io.proofs.Written.{begun-none, begun-whole, begins-behind, begins-longer, begins-none, grows-more, nears-more, nears-on, Goes, goes-end, goes-on}
-use Rattle.ruled_io.specs.Runs.{CausedAtOnce, CausedBy, Pads, PadsAll, PadsBy, ShowsAll, ShowsBy}
+use Rattle.ruled_io.specs.Runs.{AreRemarks, CausedAtOnce, CausedBy, RemarksAll, RemarksBy, ShowsAll, ShowsBy}
 use Rattle.ruled_io.specs.Stream.{StreamsAll, streamed_text}
+use Rattle.ruled_io.specs.declared.program.Remarks.{Remarks}
 use Rattle.ruled_io.specs.declared.request.Request.{Request}
 use Rattle.ruled_io.specs.declared.request.Rows.{Rows}
 use Rattle.ruled_io.specs.declared.request.Rows.TheVariants.{AtOnce, FromFirst}
@@ -74,7 +75,7 @@ read-handed failed found (Err fault) is noted = λ read. noted (sym (ap is_read 
 pub write-handed : {X : Type 0} (failed : Option ReadFault) (found : RunFault) (result : Result X RunFault) → is_of_write found ≡ true → IsErrAnd result (λ fault. fault ≡ found) → ReportsRead failed result
 write-handed failed found result writes is = read-handed failed found result is (λ read. absurd (true≢false (sym read ∙ (of-write found writes).0)))
 
-pub draws-unread : (failed : Option ReadFault) (text : Text) (wrong : Option ViewFault) (old new : Option (List ℕ)) (found : RunFault) → Draws text wrong old new {X = Unit {0}} (Err found) → is_read found ≡ true → failed ≡ read_part found
+pub draws-unread : {X : Type 0} (failed : Option ReadFault) (text : Text) (wrong : Option ViewFault) (old new : Option (List ℕ)) (found : RunFault) → Draws text wrong old new {X = X} (Err found) → is_read found ≡ true → failed ≡ read_part found
 draws-unread failed text wrong old new (Input fault) draws read = absurd (false≢true read)
 draws-unread failed text wrong old new (Read fault) draws read = absurd draws
 draws-unread failed text wrong old new Closed draws read = absurd (false≢true read)
@@ -92,16 +93,16 @@ written-draws text bytes wrong old new (Ok x) same fine wrote begun failed = (fi
 written-draws text bytes wrong old new (Err fault) same fine wrote begun failed = let (read, early) = of-write fault (failed fault refl) in (read, early, subst (Begins old new) same begun)
 
 -- before anything is drawn
-found-draws : (text : Text) (wrong : Option ViewFault) (old : Option (List ℕ)) (found : ViewFault) → (tables.is_memory found ≡ false → wrong ≡ Some found) → Draws text wrong old old {X = Unit {0}} (Err (of_view found))
+found-draws : {X : Type 0} (text : Text) (wrong : Option ViewFault) (old : Option (List ℕ)) (found : ViewFault) → (tables.is_memory found ≡ false → wrong ≡ Some found) → Draws text wrong old old {X = X} (Err (of_view found))
 found-draws text wrong old (view.Column name) right = (λ soft. (rw (right refl) refl, Keeps-refl old), λ lost. absurd (false≢true lost))
 found-draws text wrong old view.Sort right = (λ soft. (rw (right refl) refl, Keeps-refl old), λ lost. absurd (false≢true lost))
 found-draws text wrong old view.Totals right = (λ soft. (rw (right refl) refl, Keeps-refl old), λ lost. absurd (false≢true lost))
 found-draws text wrong old view.Memory right = (λ soft. absurd (true≢false soft), λ lost. begins-none old old text (Keeps-refl old))
 
-pub view-draws : (text : Text) (wrong : Option ViewFault) (old : Option (List ℕ)) (found : ViewFault) (result : Result (Unit {0}) RunFault) → (tables.is_memory found ≡ false → wrong ≡ Some found) → IsErrAnd result (λ fault. fault ≡ of_view found)
+pub view-draws : {X : Type 0} (text : Text) (wrong : Option ViewFault) (old : Option (List ℕ)) (found : ViewFault) (result : Result X RunFault) → (tables.is_memory found ≡ false → wrong ≡ Some found) → IsErrAnd result (λ fault. fault ≡ of_view found)
     → Draws text wrong old old result
 view-draws text wrong old found (Ok x) right is = absurd is
-view-draws text wrong old found (Err fault) right is = subst (λ (f : RunFault). Draws text wrong old old {X = Unit {0}} (Err f)) (sym is) (found-draws text wrong old found right)
+view-draws {X} text wrong old found (Err fault) right is = subst (λ (f : RunFault). Draws text wrong old old {X = X} (Err f)) (sym is) (found-draws {X = X} text wrong old found right)
 
 -- ---- a table
 
@@ -152,6 +153,14 @@ always-by Always options rows always = (refl, refl)
 
 pub always-blocks : (options : Options) (rows : List (List Text)) → is_always options.vertical ≡ true → (blocks_text options rows ≡ all_text options rows) × (blocks_fault options rows ≡ all_fault options rows)
 always-blocks options rows always = always-by options.vertical options rows always
+
+in-blocks : (v : Vertical) (plan : Plan) → is_always v ≡ true → is_in_blocks v plan ≡ true
+in-blocks Never plan always = absurd (false≢true always)
+in-blocks IfOmitting plan always = absurd (false≢true always)
+in-blocks Always plan always = refl
+
+pub blocks-always : (options : Options) (rows : List (List Text)) → is_always options.vertical ≡ true → shows_blocks options rows ≡ true
+blocks-always options rows always = in-blocks options.vertical (layout_of options rows) always
 
 -- of other rows what is wrong with their layout comes first
 once-wrong : {X : Type 0} (first : Option X) (turned : Bool) (blocks table : Option X) → option_or first (if turned then blocks else option_or first table) ≡ option_or first (if turned then blocks else table)
@@ -216,16 +225,16 @@ whole-draws options plan rows wrong old new result laid none draws =
     subst (λ (w : Option ViewFault). Draws (whole_table options rows) w old new result) (sym none) (subst (λ (t : Text). Draws t None old new result) text so)
 
 -- where a text ends before its end, so does a longer one
-draws-longer : (text more : Text) (wrong : Option ViewFault) (old new : Option (List ℕ)) (fault : RunFault) → Draws text wrong old new {X = Unit {0}} (Err fault) → Draws (text ++ more) wrong old new {X = Unit {0}} (Err fault)
+draws-longer : {X : Type 0} (text more : Text) (wrong : Option ViewFault) (old new : Option (List ℕ)) (fault : RunFault) → Draws text wrong old new {X = X} (Err fault) → Draws (text ++ more) wrong old new {X = X} (Err fault)
 draws-longer text more wrong old new (Input fault) (soft, lost) = (soft, λ memory. begins-longer old new text more (lost memory))
 draws-longer text more wrong old new (Read fault) drawn = drawn
 draws-longer text more wrong old new Closed begun = begins-longer old new text more begun
 draws-longer text more wrong old new Write begun = begins-longer old new text more begun
 
-pub draws-handed : (text more : Text) (wrong : Option ViewFault) (old new : Option (List ℕ)) (found : RunFault) (result : Result (Unit {0}) RunFault) → Draws text wrong old new {X = Unit {0}} (Err found) → IsErrAnd result (λ fault. fault ≡ found)
+pub draws-handed : {X : Type 0} (text more : Text) (wrong : Option ViewFault) (old new : Option (List ℕ)) (found : RunFault) (result : Result X RunFault) → Draws text wrong old new {X = X} (Err found) → IsErrAnd result (λ fault. fault ≡ found)
     → Draws (text ++ more) wrong old new result
 draws-handed text more wrong old new found (Ok x) drawn is = absurd is
-draws-handed text more wrong old new found (Err fault) drawn is = subst (λ (f : RunFault). Draws (text ++ more) wrong old new {X = Unit {0}} (Err f)) (sym is) (draws-longer text more wrong old new found drawn)
+draws-handed {X} text more wrong old new found (Err fault) drawn is = subst (λ (f : RunFault). Draws (text ++ more) wrong old new {X = X} (Err f)) (sym is) (draws-longer {X = X} text more wrong old new found drawn)
 
 -- and where it is drawn, what is written behind it makes the longer one
 pub draws-behind : {X : Type 0} (text more bytes : Text) (wrong : Option ViewFault) (old mid new : Option (List ℕ)) (result : Result X RunFault) → wrong ≡ None → Appends old mid text → bytes ≡ more
@@ -234,6 +243,54 @@ draws-behind text more bytes wrong old mid new (Ok x) fine drawn is wrote begun 
 draws-behind {X} text more bytes wrong old mid new (Err fault) fine drawn is wrote begun failed =
     draws-so {X = X} (text ++ more) wrong old new (Err fault)
     (let (read, early) = of-write fault (failed fault refl) in (read, early, begins-behind old mid new text more drawn (subst (Begins mid new) is begun)))
+
+-- what is drawn stays drawn where something is returned with it
+with-more : {X Y : Type 0} (text : Text) (wrong : Option ViewFault) (old new : Option (List ℕ)) (answer : Result X RunFault) (y : Y) → Draws text wrong old new answer → Draws text wrong old new (result_and answer (Ok y))
+with-more text wrong old new (Ok x) y drawn = drawn
+with-more text wrong old new (Err (Input fault)) y drawn = drawn
+with-more text wrong old new (Err (Read fault)) y drawn = drawn
+with-more text wrong old new (Err Closed) y drawn = drawn
+with-more text wrong old new (Err Write) y drawn = drawn
+
+pub draws-with : {X Y : Type 0} (text : Text) (wrong : Option ViewFault) (old new : Option (List ℕ)) (answer : Result X RunFault) (y : Y) (result : Result Y RunFault) → result ≡ result_and answer (Ok y)
+    → Draws text wrong old new answer → Draws text wrong old new result
+draws-with {X} {Y} text wrong old new answer y result is drawn = subst (λ (r : Result Y RunFault). Draws text wrong old new r) (sym is) (with-more text wrong old new answer y drawn)
+
+same-failure : {X Y : Type 0} (answer : Result X RunFault) (y : Y) → failure_in answer ≡ failure_in (result_and answer (Ok y))
+same-failure (Ok x) y = refl
+same-failure (Err fault) y = refl
+
+pub told-with : {X Y : Type 0} (old new : Option RunFault) (answer : Result X RunFault) (y : Y) (result : Result Y RunFault) → result ≡ result_and answer (Ok y) → TellsWrite old new answer → TellsWrite old new result
+told-with {X} {Y} old new answer y result is told = λ none. told none ∙ same-failure answer y ∙ sym (ap (λ (r : Result Y RunFault). failure_in r) is)
+
+noted-more : {X Y : Type 0} (failure : Option ReadFault) (answer : Result X RunFault) (y : Y) → ReportsRead failure answer → ReportsRead failure (result_and answer (Ok y))
+noted-more failure (Ok x) y noted = tt
+noted-more failure (Err fault) y noted = noted
+
+pub noted-with : {X Y : Type 0} (failure : Option ReadFault) (answer : Result X RunFault) (y : Y) (result : Result Y RunFault) → result ≡ result_and answer (Ok y) → ReportsRead failure answer → ReportsRead failure result
+noted-with {X} {Y} failure answer y result is noted = subst (λ (r : Result Y RunFault). ReportsRead failure r) (sym is) (noted-more failure answer y noted)
+
+value-with : {X Y : Type 0} (answer : Result X RunFault) (y right : Y) → y ≡ right → IfOk (result_and answer (Ok y)) (λ value. value ≡ right)
+value-with (Ok x) y right is = is
+value-with (Err fault) y right is = tt
+
+pub returned-with : {X Y : Type 0} (answer : Result X RunFault) (y right : Y) (result : Result Y RunFault) → result ≡ result_and answer (Ok y) → y ≡ right → IfOk result (λ value. value ≡ right)
+returned-with {X} {Y} answer y right result so is = subst (λ (r : Result Y RunFault). IfOk r (λ value. value ≡ right)) (sym so) (value-with answer y right is)
+
+-- how wide the lines of a table are, if that is more than the width that is set
+pub none-excess : (options : Options) (rows : List (List Text)) → length rows ≡ 0 → None ≡ all_excess options rows
+none-excess options rows none = rw none refl
+
+either-same : {X : Type 0} (b : Bool) (x : X) → x ≡ (if b then x else x)
+either-same true x = refl
+either-same false x = refl
+
+pub blocks-excess : (options : Options) (rows : List (List Text)) → shows_blocks options rows ≡ true → None ≡ all_excess options rows
+blocks-excess options rows turned = rw turned (either-same (length rows == 0) None)
+
+pub excess-measured : (options : Options) (rows : List (List Text)) (plan : Plan) (wide : Option ℕ) → 0 < length rows → shows_blocks options rows ≡ false → plan ≡ layout_of options rows → wide ≡ excess_of options.bounds.width plan → wide ≡ all_excess options rows
+excess-measured options [] plan wide some flat laid is = absurd (omega (arith, some))
+excess-measured options (row ∷ rows) plan wide some flat laid is = rw flat (is ∙ ap (excess_of options.bounds.width) laid)
 
 pub same-draws : {X : Type 0} (text same : Text) (wrong right : Option ViewFault) (old new : Option (List ℕ)) (result : Result X RunFault) → text ≡ same → wrong ≡ right → Draws text wrong old new result → Draws same right old new result
 same-draws text same wrong right old new result is told drawn = subst (λ (w : Option ViewFault). Draws same w old new result) told (subst (λ (t : Text). Draws t wrong old new result) is drawn)
@@ -270,36 +327,36 @@ module _ {X : Type 0} (given old new : Option (List ℕ)) (request : Request) (r
   pub once-caused : request.rows ≡ AtOnce → IfErr r (λ fault. IfSome given (λ bytes. CausedAtOnce request bytes fault old new)) → EndsBefore request.rows
   once-caused is ends = subst EndsBefore (sym is) ends
 
-streamed-text : {X : Type 0} (given old new : Option (List ℕ)) (request : Request) (count : ℕ) (r : Result X RunFault) → IfSome given (λ bytes. StreamsAll request count bytes old new r) → ShowsText given old new request r (FromFirst count)
+streamed-text : (given old new : Option (List ℕ)) (request : Request) (count : ℕ) (r : Result Remarks RunFault) → IfSome given (λ bytes. StreamsAll request count bytes old new r) → ShowsText given old new request r (FromFirst count)
 streamed-text None old new request count (Ok x) streams = tt
-streamed-text (Some bytes) old new request count (Ok x) (none, fine, wrote) = (streamed_text request count bytes, (none, fine, refl), wrote)
+streamed-text (Some bytes) old new request count (Ok x) (none, fine, wrote, is) = (streamed_text request count bytes, (none, fine, refl), wrote)
 streamed-text given old new request count (Err fault) streams = tt
 
-streamed-cause : {X : Type 0} (given old new : Option (List ℕ)) (request : Request) (count : ℕ) (r : Result X RunFault) → IfSome given (λ bytes. StreamsAll request count bytes old new r) → EndsBefore given old new request r (FromFirst count)
+streamed-cause : (given old new : Option (List ℕ)) (request : Request) (count : ℕ) (r : Result Remarks RunFault) → IfSome given (λ bytes. StreamsAll request count bytes old new r) → EndsBefore given old new request r (FromFirst count)
 streamed-cause given old new request count (Ok x) streams = tt
 streamed-cause None old new request count (Err fault) streams = tt
 streamed-cause (Some bytes) old new request count (Err fault) streams = streams
 
-pub rows-shown : {X : Type 0} (given old new : Option (List ℕ)) (request : Request) (count : ℕ) (r : Result X RunFault) → request.rows ≡ FromFirst count → IfSome given (λ bytes. StreamsAll request count bytes old new r) → ShowsText given old new request r request.rows
+pub rows-shown : (given old new : Option (List ℕ)) (request : Request) (count : ℕ) (r : Result Remarks RunFault) → request.rows ≡ FromFirst count → IfSome given (λ bytes. StreamsAll request count bytes old new r) → ShowsText given old new request r request.rows
 rows-shown given old new request count r is streams = subst (ShowsText given old new request r) (sym is) (streamed-text given old new request count r streams)
 
-pub rows-caused : {X : Type 0} (given old new : Option (List ℕ)) (request : Request) (count : ℕ) (r : Result X RunFault) → request.rows ≡ FromFirst count → IfSome given (λ bytes. StreamsAll request count bytes old new r) → EndsBefore given old new request r request.rows
+pub rows-caused : (given old new : Option (List ℕ)) (request : Request) (count : ℕ) (r : Result Remarks RunFault) → request.rows ≡ FromFirst count → IfSome given (λ bytes. StreamsAll request count bytes old new r) → EndsBefore given old new request r request.rows
 rows-caused given old new request count r is streams = subst (EndsBefore given old new request r) (sym is) (streamed-cause given old new request count r streams)
 
--- how many rows are padded: row by row none
-pub once-padded : (given : Option (List ℕ)) (request : Request) (result : Result ℕ RunFault) → request.rows ≡ AtOnce → IfOk result (λ count. IfSome given (λ bytes. PadsAll request bytes count)) → IfOk result (λ count. IfSome given (λ bytes. Pads request bytes count))
-once-padded given request result is pads = subst (λ (how : Rows). IfOk result (λ count. IfSome given (λ bytes. PadsBy how request bytes count))) (sym is) pads
+-- what is remarked on a table
+pub once-remarked : (given : Option (List ℕ)) (request : Request) (result : Result Remarks RunFault) → request.rows ≡ AtOnce → IfOk result (λ remarks. IfSome given (λ bytes. RemarksAll request bytes remarks)) → IfOk result (λ remarks. IfSome given (λ bytes. AreRemarks request bytes remarks))
+once-remarked given request result is remarked = subst (λ (how : Rows). IfOk result (λ remarks. IfSome given (λ bytes. RemarksBy how request bytes remarks))) (sym is) remarked
 
-none-padded : (given : Option (List ℕ)) (request : Request) (first count : ℕ) → count ≡ 0 → IfSome given (λ bytes. PadsBy (FromFirst first) request bytes count)
-none-padded None request first count none = tt
-none-padded (Some bytes) request first count none = none
+streamed-remarked : (given old new : Option (List ℕ)) (request : Request) (count : ℕ) (r : Result Remarks RunFault) → IfSome given (λ bytes. StreamsAll request count bytes old new r) → IfOk r (λ remarks. IfSome given (λ bytes. RemarksBy (FromFirst count) request bytes remarks))
+streamed-remarked None old new request count (Ok x) streams = tt
+streamed-remarked (Some bytes) old new request count (Ok x) (none, fine, wrote, is) = is
+streamed-remarked given old new request count (Err fault) streams = tt
 
-pub rows-padded : (given : Option (List ℕ)) (request : Request) (first : ℕ) (result : Result ℕ RunFault) → request.rows ≡ FromFirst first → IfOk result (λ count. count ≡ 0) → IfOk result (λ count. IfSome given (λ bytes. Pads request bytes count))
-rows-padded given request first (Ok count) is none = subst (λ (how : Rows). IfSome given (λ bytes. PadsBy how request bytes count)) (sym is) (none-padded given request first count none)
-rows-padded given request first (Err fault) is none = tt
+pub rows-remarked : (given old new : Option (List ℕ)) (request : Request) (count : ℕ) (r : Result Remarks RunFault) → request.rows ≡ FromFirst count → IfSome given (λ bytes. StreamsAll request count bytes old new r) → IfOk r (λ remarks. IfSome given (λ bytes. AreRemarks request bytes remarks))
+rows-remarked given old new request count r is streams = subst (λ (how : Rows). IfOk r (λ remarks. IfSome given (λ bytes. RemarksBy how request bytes remarks))) (sym is) (streamed-remarked given old new request count r streams)
 
--- an ending has the count of its result
-pub ending-padded : (given : Option (List ℕ)) (request : Request) (result : Result ℕ RunFault) (padded : ℕ) → IfOk result (λ count. IfSome given (λ bytes. Pads request bytes count)) → IfOk result (λ count. padded ≡ count) → result_err result ≡ None
-    → IfSome given (λ bytes. Pads request bytes padded)
-ending-padded given request (Ok count) padded pads is none = subst (λ (n : ℕ). IfSome given (λ bytes. Pads request bytes n)) (sym is) pads
-ending-padded given request (Err fault) padded pads is none = absurd (true≢false (ap (λ (o : Option RunFault). is_some o) none))
+-- an ending has the remarks of its result
+pub ending-remarked : (given : Option (List ℕ)) (request : Request) (result : Result Remarks RunFault) (remarks : Remarks) → IfOk result (λ told. IfSome given (λ bytes. AreRemarks request bytes told)) → IfOk result (λ told. remarks ≡ told) → result_err result ≡ None
+    → IfSome given (λ bytes. AreRemarks request bytes remarks)
+ending-remarked given request (Ok told) remarks are is none = subst (λ (r : Remarks). IfSome given (λ bytes. AreRemarks request bytes r)) (sym is) are
+ending-remarked given request (Err fault) remarks are is none = absurd (true≢false (ap (λ (o : Option RunFault). is_some o) none))

@@ -17,7 +17,7 @@ use Rattle.ruled_sql.specs.declared.fault.SqlFault.{SqlFault}
 use Rattle.ruled_sql.specs.declared.fault.SqlFault.TheVariants as sql
 use Rattle.ruled_database.specs.declared.fault.TableFault.TheVariants as table
 use Rattle.ruled_table.specs.Arranged.{padded_rows}
-use Rattle.ruled_table.specs.View.{table_fault, table_text}
+use Rattle.ruled_table.specs.View.{table_excess, table_fault, table_text}
 use Rattle.ruled_table.specs.declared.fault.ViewFault.{ViewFault}
 use Rattle.ruled_io.specs.Databases.{LacksAnswer, LacksAnswerOf, LacksQueried, LacksSelected, LacksStored, LacksTableOf, path_in, table_of}
 use Rattle.ruled_io.specs.Faults.{IsOfRead, Tells, but_line_in, fault_of_database, fault_of_json, fault_of_rows, fault_of_sql, is_early, is_memory, is_of_write, is_read}
@@ -25,7 +25,7 @@ use Rattle.ruled_io.specs.Formats.{content_of, format_in}
 use Rattle.ruled_io.specs.Input.{format_fault, input_fault, rows_in}
 use Rattle.ruled_io.specs.Output.{failure_in, fault_written, write_part, Begins}
 use Rattle.ruled_io.specs.Requests.{format_told, hides_rows, holds_database, known_in, log_of, path_of, rows_needed, selection_of}
-use Rattle.ruled_io.specs.Runs.{AreAsked, AreRows, AreRowsAs, CausedAtOnce, LacksInput, LacksRows, LacksRowsAs, PadsAll, ShowsAll}
+use Rattle.ruled_io.specs.Runs.{AreAsked, AreRows, AreRowsAs, CausedAtOnce, LacksInput, LacksRows, LacksRowsAs, RemarksAll, ShowsAll, remarks_on}
 use Rattle.ruled_io.specs.Steps.{Draws}
 use Rattle.ruled_io.specs.declared.fault.InputFault.{InputFault}
 use Rattle.ruled_io.specs.declared.fault.InputFault.TheVariants as input
@@ -36,6 +36,7 @@ use Rattle.ruled_io.specs.declared.fault.RunFault.TheVariants.{Input, Read, Clos
 use Rattle.ruled_io.specs.declared.formats.Known.{Known}
 use Rattle.ruled_io.specs.declared.formats.Format.{Format}
 use Rattle.ruled_io.specs.declared.formats.Format.TheVariants.{Separated, Json, JsonLines}
+use Rattle.ruled_io.specs.declared.program.Remarks.{Remarks}
 use Rattle.ruled_io.specs.declared.request.Query.{Query}
 use Rattle.ruled_io.specs.declared.request.Request.{Request}
 use Rattle.ruled_io.specs.declared.request.Selection.{Selection}
@@ -256,7 +257,7 @@ lacks-caused request bytes old Write lacks = absurd lacks
 
 module _ (request : Request) (bytes : List ℕ) (rows : List (List Text)) (are : AreRows (rows_needed request.view) request.source bytes rows) where
   -- their table isn't written
-  pub draws-caused : (old new : Option (List ℕ)) (fault : RunFault) → Draws (table_text request.view rows) (table_fault request.view rows) old new {X = Unit {0}} (Err fault) → CausedAtOnce request bytes fault old new
+  pub draws-caused : {X : Type 0} (old new : Option (List ℕ)) (fault : RunFault) → Draws (table_text request.view rows) (table_fault request.view rows) old new {X = X} (Err fault) → CausedAtOnce request bytes fault old new
   draws-caused old new (Input fault) (soft, memory) = (λ found. (inr (rows, are, (soft found).0), (soft found).1), λ lost. inr (rows, are, memory lost))
   draws-caused old new (Read fault) draws = absurd draws
   draws-caused old new Closed draws = (rows, are, draws)
@@ -284,16 +285,16 @@ of-write-late Closed failed = refl
 of-write-late Write failed = refl
 
 -- a fault that is found first is told before anything is written
-pub draws-early : (text : Text) (wrong : Option ViewFault) (old new : Option (List ℕ)) (fault : RunFault) → Draws text wrong old new {X = Unit {0}} (Err fault) → is_early fault ≡ true → Keeps old new
+pub draws-early : {X : Type 0} (text : Text) (wrong : Option ViewFault) (old new : Option (List ℕ)) (fault : RunFault) → Draws text wrong old new {X = X} (Err fault) → is_early fault ≡ true → Keeps old new
 draws-early text wrong old new (Input fault) (soft, memory) early = (soft (not-true (is_memory fault) early)).1
 draws-early text wrong old new (Read fault) draws early = absurd draws
 draws-early text wrong old new Closed draws early = absurd (false≢true early)
 draws-early text wrong old new Write draws early = absurd (false≢true early)
 
-pub early-handed : {Y : Type 0} (text : Text) (wrong : Option ViewFault) (old new : Option (List ℕ)) (found : RunFault) (result : Result Y RunFault) → Draws text wrong old new {X = Unit {0}} (Err found) → IsErrAnd result (λ fault. fault ≡ found)
+pub early-handed : {X Y : Type 0} (text : Text) (wrong : Option ViewFault) (old new : Option (List ℕ)) (found : RunFault) (result : Result Y RunFault) → Draws text wrong old new {X = X} (Err found) → IsErrAnd result (λ fault. fault ≡ found)
     → IfErr result (λ fault. is_early fault ≡ true → Keeps old new)
 early-handed text wrong old new found (Ok x) draws is = absurd is
-early-handed text wrong old new found (Err fault) draws is = λ early. draws-early text wrong old new found draws (ap is_early (sym is) ∙ early)
+early-handed {X} text wrong old new found (Err fault) draws is = λ early. draws-early {X = X} text wrong old new found draws (ap is_early (sym is) ∙ early)
 
 -- the table is written, and then shown
 module _ {X : Type 0} (given : Option (List ℕ)) (request : Request) (rows : List (List Text)) (old mid new : Option (List ℕ)) (result : Result X RunFault) (are : IfSome given (λ bytes. AreRows (rows_needed request.view) request.source bytes rows))
@@ -304,11 +305,16 @@ module _ {X : Type 0} (given : Option (List ℕ)) (request : Request) (rows : Li
   pub after-drawn : ((fault : RunFault) → result ≡ Err fault → is_of_write fault ≡ true) → IfErr result (λ fault. IfSome given (λ bytes. CausedAtOnce request bytes fault old new))
   after-drawn failed = each-err result (λ fault is. if-so {P = λ bytes. AreRows (rows_needed request.view) request.source bytes rows} given are (λ bytes these. unshown-caused request bytes rows these old mid new fault (failed fault is) drawn.1 kept))
 
--- so many rows are padded
-pub padded-by : (given : Option (List ℕ)) (request : Request) (rows : List (List Text)) (padded : ℕ) (result : Result ℕ RunFault) → IfSome given (λ bytes. AreRows (rows_needed request.view) request.source bytes rows) → padded ≡ padded_rows request.view rows
-    → IfOk result (λ count. count ≡ padded) → IfOk result (λ count. IfSome given (λ bytes. PadsAll request bytes count))
-padded-by given request rows padded (Ok count) are is same = if-so {P = λ bytes. AreRows (rows_needed request.view) request.source bytes rows} given are (λ bytes these. (rows, these, same ∙ is))
-padded-by given request rows padded (Err fault) are is same = tt
+-- this is remarked
+abbrev remarks-of : ℕ → Option ℕ → Remarks
+remarks-of padded wide = record { padded = padded; wide = wide }
+
+pub remarked-by : (given : Option (List ℕ)) (request : Request) (rows : List (List Text)) (padded : ℕ) (wide : Option ℕ) (result : Result Remarks RunFault) → IfSome given (λ bytes. AreRows (rows_needed request.view) request.source bytes rows)
+    → padded ≡ padded_rows request.view rows → wide ≡ table_excess request.view rows → IfOk result (λ told. told ≡ remarks-of padded wide) → IfOk result (λ remarks. IfSome given (λ bytes. RemarksAll request bytes remarks))
+remarked-by given request rows padded wide (Ok told) are pads exceeds same =
+    let is : told ≡ remarks_on request rows = same ∙ ap (λ (n : ℕ). remarks-of n wide) pads ∙ ap (remarks-of (padded_rows request.view rows)) exceeds in
+    if-so {P = λ bytes. AreRows (rows_needed request.view) request.source bytes rows} given are (λ bytes these. (rows, these, is))
+remarked-by given request rows padded wide (Err fault) are pads exceeds same = tt
 
 -- what a result says of a write, its fault does
 pub written-err : {X : Type 0} (r : Result X RunFault) → failure_in r ≡ fault_written (result_err r)

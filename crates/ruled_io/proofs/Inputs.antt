@@ -22,6 +22,7 @@ use Rattle.ruled_io.specs.declared.fault.StreamedFault.TheVariants.{Database}
 use Rattle.ruled_io.specs.declared.formats.Format.{Format}
 use Rattle.ruled_io.specs.declared.formats.Format.TheVariants.{Separated, Json, JsonLines}
 use Rattle.ruled_io.specs.declared.formats.Known.{Known}
+use Rattle.ruled_io.specs.declared.program.Remarks.{Remarks}
 use Rattle.ruled_io.specs.declared.reader.Reading.{Reading}
 use Rattle.ruled_io.specs.declared.request.Request.{Request}
 use Rattle.ruled_io.specs.declared.request.Source.{Source}
@@ -101,14 +102,14 @@ first-some options format count = elim (cases_Bool (has_names options format)) [
 ]
 
 -- what is wrong with all where a database holds them
-pub database-ends : {X : Type 0} (request : Request) (count : ℕ) (bytes : List ℕ) (old : Option (List ℕ)) (result : Result X RunFault) → holds_database request.source bytes ≡ true → IsErrAnd result (λ found. found ≡ Input (Stream Database)) → StreamsAll request count bytes old old result
+pub database-ends : (request : Request) (count : ℕ) (bytes : List ℕ) (old : Option (List ℕ)) (result : Result Remarks RunFault) → holds_database request.source bytes ≡ true → IsErrAnd result (λ found. found ≡ Input (Stream Database)) → StreamsAll request count bytes old old result
 unfolding streamed_rows streamed_wrong
 database-ends request count bytes old result holds is =
     wrong-ends request.view (streamed_count request count bytes) (streamed_rows request count bytes) (streamed_wrong request count bytes) old (Stream Database) result is
     (rw holds refl, rw holds (lt-ltb 0 (streamed_count request count bytes) (first-some request.view (format_streamed (format_told request.source) bytes) count)))
 
 -- the rows of an input in the format that its first bytes show
-pub rows-end-so : {X : Type 0} (request : Request) (count : ℕ) (front rest all : List ℕ) (format : Format) (old new : Option (List ℕ)) (result : Result X RunFault) → all ≡ front ++ rest
+pub rows-end-so : (request : Request) (count : ℕ) (front rest all : List ℕ) (format : Format) (old new : Option (List ℕ)) (result : Result Remarks RunFault) → all ≡ front ++ rest
     → ShowsSource request.source front rest → holds_database request.source front ≡ false → format ≡ format_streamed (format_told request.source) front
     → Ends request.view (first_count request.view format count) (sound_rows format (record_count count) (content_of format front ++ rest)) (wrong_in format (record_count count) (content_of format front ++ rest)) old new result → StreamsAll request count all old new result
 unfolding streamed_rows streamed_wrong

@@ -2,7 +2,7 @@
 use Rattle.std.proofs.Common.{◌≡◌, ◌∙◌, inl, inr, ◌<◌, ◌+◌, ◌&&◌, ℕ, zero, suc, Bool, List, [], ◌++◌, Option, Some, None, Result, Ok, Err, OnOk, true, false, length, length-append, take, nat_lt, refl, sym, ap, subst, append-nil, arith}
 use Rattle.std.specs.Prelude.{◌==◌, if◌then◌else◌, is_some, option_map}
 use Rattle.std.specs.Io.KnownBytes.{Appends, Keeps}
-use Rattle.std.specs.Result.{IsErrAnd}
+use Rattle.std.specs.Result.{IsErrAnd, result_and}
 use Rattle.std.proofs.KnownBytes.{Appends-kept, Appends-nil, Keeps-refl}
 use Rattle.std.proofs.lemmas.Bool.{cases_Bool, eqb-true, le-ltb, ltb-false, true≢false}
 use Rattle.std.proofs.lemmas.List.{nil_from_length, take-append-le}
@@ -11,18 +11,20 @@ use Rattle.ruled_table.specs.Faults.{is_memory as is_lost}
 use Rattle.ruled_table.specs.Layouts.{first_fault, layout_of}
 use Rattle.ruled_table.specs.Plans.{Plan}
 use Rattle.ruled_table.specs.RowLines.{begun_text}
+use Rattle.ruled_table.specs.View.{excess_of}
 use Rattle.ruled_table.specs.declared.fault.ViewFault.{ViewFault}
 use Rattle.ruled_table.specs.declared.fault.ViewFault.TheVariants as view
 use Rattle.ruled_table.specs.declared.options.Options.{Options}
 use Rattle.ruled_io.specs.Faults.{but_line, but_line_in, is_failure, of_view}
 use Rattle.ruled_io.specs.Reading.{Stands, sound_rows, wrong_in}
 use Rattle.ruled_io.specs.Steps.{EndsBelow, Grows, IsEnough, Nears, wrong_within}
-use Rattle.ruled_io.specs.Stream.{Ends, first_wrong, lines_in, first_plan, shown_text}
+use Rattle.ruled_io.specs.Stream.{Ends, first_remarks, first_wrong, lines_in, first_plan, shown_text}
 use Rattle.ruled_io.specs.Output.{Begins}
 use Rattle.ruled_io.specs.declared.fault.InputFault.{InputFault}
 use Rattle.ruled_io.specs.declared.fault.RunFault.{RunFault}
 use Rattle.ruled_io.specs.declared.fault.RunFault.TheVariants.{Input}
 use Rattle.ruled_io.specs.declared.formats.Format.{Format}
+use Rattle.ruled_io.specs.declared.program.Remarks.{Remarks}
 use Rattle.ruled_io.specs.declared.reader.Reading.{Reading}
 use Rattle.ruled_io.specs.declared.reader.Reading.TheVariants.{More, Done}
 use Rattle.ruled_io.proofs.Written.{begun-none, whole-none, begins-kept, begins-none}
@@ -101,25 +103,25 @@ soft-view view.Memory soft = absurd (true≢false soft)
 
 module _ (options : Options) (count : ℕ) (rows : List (List Text)) (wrong : Option InputFault) where
   -- the first rows end at a bad one
-  pub wrong-ends : {X : Type 0} (old : Option (List ℕ)) (fault : InputFault) (result : Result X RunFault) → IsErrAnd result (λ found. found ≡ Input fault) → (wrong ≡ Some (but_line_in fault)) × (nat_lt (length rows) count ≡ true) → Ends options count rows wrong old old result
+  pub wrong-ends : (old : Option (List ℕ)) (fault : InputFault) (result : Result Remarks RunFault) → IsErrAnd result (λ found. found ≡ Input fault) → (wrong ≡ Some (but_line_in fault)) × (nat_lt (length rows) count ≡ true) → Ends options count rows wrong old old result
   wrong-ends old fault (Ok x) is short = absurd is
   wrong-ends old fault (Err found) is short =
       let told : first_wrong options count rows wrong ≡ Some (but_line (Input fault)) = rw (short.0, short.1) refl in
       (begins-none old old (shown_text options count rows wrong) (Keeps-refl old), λ soft. inl (told ∙ ap (λ (f : RunFault). Some (but_line f)) (sym is)))
 
   -- there are none
-  pub none-ends : (old : Option (List ℕ)) → (length rows ≡ 0) × (wrong ≡ None) → (first_wrong options count rows wrong ≡ None) × (wrong ≡ None) × Appends old old (shown_text options count rows wrong)
+  pub none-ends : (old : Option (List ℕ)) → (length rows ≡ 0) × (wrong ≡ None) → Ends options count rows wrong old old (Ok (record { padded = 0; wide = None }))
   none-ends old (none, fine) =
       let empty : rows ≡ [] = no-items rows none in
       let text : shown_text options count rows wrong ≡ [] = rw (empty, fine) (whole-none options (layout_of options (take count []))) in
-      (rw (empty, fine) refl, fine, subst (Appends old old) (sym text) (Appends-nil old))
+      (rw (empty, fine) refl, fine, subst (Appends old old) (sym text) (Appends-nil old), rw none refl)
 
   -- their table is judged
   pub judged : (is_some wrong && nat_lt (length rows) count) ≡ false → (length rows == 0) ≡ false → first_wrong options count rows wrong ≡ option_map of_view (first_fault options (take count rows))
   judged long some = rw (long, some) refl
 
   -- it is refused
-  pub refused-ends : {X : Type 0} (old : Option (List ℕ)) (found : ViewFault) (right : Option ViewFault) (result : Result X RunFault) → IsErrAnd result (λ fault. fault ≡ of_view found) → first_wrong options count rows wrong ≡ option_map of_view right
+  pub refused-ends : (old : Option (List ℕ)) (found : ViewFault) (right : Option ViewFault) (result : Result Remarks RunFault) → IsErrAnd result (λ fault. fault ≡ of_view found) → first_wrong options count rows wrong ≡ option_map of_view right
       → (is_lost found ≡ false → right ≡ Some found) → Ends options count rows wrong old old result
   refused-ends old found right (Ok x) is judged tells = absurd is
   refused-ends old found right (Err fault) is judged tells = (
@@ -136,11 +138,16 @@ module _ (options : Options) (count : ℕ) (rows : List (List Text)) (wrong : Op
   whole-near : (text : Text) (old new : Option (List ℕ)) → Nears (begun_text options (first_plan options count rows wrong) []) text old new → Begins old new text
   whole-near text old new (more, is, begun) = subst (Begins old new) (ap (λ (t : Text). t ++ more) (sym (begun-none options (first_plan options count rows wrong))) ∙ is) begun
 
-  shown-ends : {X : Type 0} (old new : Option (List ℕ)) (result : Result X RunFault) → first_wrong options count rows wrong ≡ None → EndsBelow options (first_plan options count rows wrong) rows wrong [] old new result → Ends options count rows wrong old new result
-  shown-ends old new (Ok x) fine (none, grown) =
+  -- these remarks
+  abbrev pub with-wide : Option ℕ → Remarks
+  with-wide wide = record { padded = 0; wide = wide }
+
+  shown-ends : {X : Type 0} (old new : Option (List ℕ)) (answer : Result X RunFault) (remarks : Remarks) → first_wrong options count rows wrong ≡ None → EndsBelow options (first_plan options count rows wrong) rows wrong [] old new answer
+      → remarks ≡ first_remarks options count rows wrong → Ends options count rows wrong old new (result_and answer (Ok remarks))
+  shown-ends old new (Ok x) remarks fine (none, grown) is =
       let shown : lines_in options (first_plan options count rows wrong) rows wrong ≡ shown_text options count rows wrong = ap (λ (w : Option RunFault). if is_some w then [] else lines_in options (first_plan options count rows wrong) rows wrong) (sym fine) in
-      (fine, none, subst (Appends old new) shown (whole-grown _ old new grown))
-  shown-ends old new (Err fault) fine (near, cause) =
+      (fine, none, subst (Appends old new) shown (whole-grown _ old new grown), is)
+  shown-ends old new (Err fault) remarks fine (near, cause) is =
       let shown : lines_in options (first_plan options count rows wrong) rows wrong ≡ shown_text options count rows wrong = ap (λ (w : Option RunFault). if is_some w then [] else lines_in options (first_plan options count rows wrong) rows wrong) (sym fine) in (
         subst (Begins old new) shown (whole-near _ old new near),
         λ soft. elim (cause soft) [
@@ -151,14 +158,19 @@ module _ (options : Options) (count : ℕ) (rows : List (List Text)) (wrong : Op
         ],
       )
 
-  pub table-ends : {X : Type 0} (plan : Plan) (old new : Option (List ℕ)) (result : Result X RunFault) → plan ≡ first_plan options count rows wrong → first_wrong options count rows wrong ≡ None → EndsBelow options plan rows wrong [] old new result → Ends options count rows wrong old new result
-  table-ends plan old new result is fine ends = shown-ends old new result fine (subst (λ (p : Plan). EndsBelow options p rows wrong [] old new result) is ends)
+  pub table-ends : {X : Type 0} (plan : Plan) (old new : Option (List ℕ)) (answer : Result X RunFault) (wide : Option ℕ) (result : Result Remarks RunFault) → plan ≡ first_plan options count rows wrong → first_wrong options count rows wrong ≡ None
+      → (length rows == 0) ≡ false → EndsBelow options plan rows wrong [] old new answer → wide ≡ excess_of options.bounds.width plan → result ≡ result_and answer (Ok (with-wide wide)) → Ends options count rows wrong old new result
+  table-ends plan old new answer wide result is fine some ends told so =
+      let remarked : with-wide wide ≡ first_remarks options count rows wrong = rw some (ap with-wide (told ∙ ap (excess_of options.bounds.width) is)) in
+      subst (Ends options count rows wrong old new) (sym so) (shown-ends old new answer (with-wide wide) fine (subst (λ (p : Plan). EndsBelow options p rows wrong [] old new answer) is ends) remarked)
 
   -- and shown
-  pub ends-kept : {X : Type 0} (old mid new : Option (List ℕ)) (answer result : Result X RunFault) → Ends options count rows wrong old mid answer → Keeps mid new → OnOk result (answer ≡ result)
+  pub ends-kept : (old mid new : Option (List ℕ)) (answer result : Result Remarks RunFault) → Ends options count rows wrong old mid answer → Keeps mid new → OnOk result (answer ≡ result)
       → ((fault : RunFault) → result ≡ Err fault → is_failure fault ≡ false → answer ≡ result) → Ends options count rows wrong old new result
-  ends-kept old mid new (Ok x) (Ok y) (fine, none, wrote) kept same told = (fine, none, Appends-kept old mid new _ wrote kept)
-  ends-kept old mid new (Ok x) (Err fault) (fine, none, wrote) kept same told =
+  ends-kept old mid new (Ok x) (Ok y) (fine, none, wrote, remarked) kept same told =
+      let is : x ≡ y = cc in
+      (fine, none, Appends-kept old mid new _ wrote kept, sym is ∙ remarked)
+  ends-kept old mid new (Ok x) (Err fault) (fine, none, wrote, remarked) kept same told =
       ((shown_text options count rows wrong, [], sym (append-nil (shown_text options count rows wrong)), Appends-kept old mid new _ wrote kept), λ soft. let e = told fault refl soft in cc)
   ends-kept old mid new (Err found) (Ok y) ends kept same told = cc
   ends-kept old mid new (Err found) (Err fault) (begun, cause) kept same told = (
@@ -177,6 +189,6 @@ module _ (options : Options) (count : ℕ) (rows : List (List Text)) (wrong : Op
   )
 
   -- memory or a read failed before anything was written
-  pub failed-ends : {X : Type 0} (old : Option (List ℕ)) (found : RunFault) (result : Result X RunFault) → IsErrAnd result (λ fault. fault ≡ found) → is_failure found ≡ true → Ends options count rows wrong old old result
+  pub failed-ends : (old : Option (List ℕ)) (found : RunFault) (result : Result Remarks RunFault) → IsErrAnd result (λ fault. fault ≡ found) → is_failure found ≡ true → Ends options count rows wrong old old result
   failed-ends old found (Ok x) is failed = absurd is
   failed-ends old found (Err fault) is failed = (begins-none old old (shown_text options count rows wrong) (Keeps-refl old), λ soft. absurd (true≢false (sym failed ∙ sym (ap is_failure is) ∙ soft)))

@@ -3,17 +3,18 @@ use Rattle.std.specs.Prelude.{◌≡◌, ◌⊎◌, ⊤, ℕ, Bool, true, false,
 use Rattle.std.specs.Io.KnownBytes.{Keeps}
 use Rattle.pg_layout.specs.Text.{Text}
 use Rattle.ruled_table.specs.Arranged.{padded_rows}
-use Rattle.ruled_table.specs.View.{table_fault, table_text}
+use Rattle.ruled_table.specs.View.{table_excess, table_fault, table_text}
 use Rattle.ruled_io.specs.Databases.{AreSelected, LacksAnswer, LacksQueried, LacksStored}
 use Rattle.ruled_io.specs.Faults.{but_line_in, fault_of_view, is_memory}
 use Rattle.ruled_io.specs.Input.{input_fault, rows_in}
 use Rattle.ruled_io.specs.Requests.{format_told, hides_rows, holds_database, log_of, path_of, rows_needed, selection_of}
-use Rattle.ruled_io.specs.Stream.{StopsStream, streamed_fault, streamed_text, streamed_wrong}
+use Rattle.ruled_io.specs.Stream.{StopsStream, streamed_fault, streamed_remarks, streamed_text, streamed_wrong}
 use Rattle.ruled_io.specs.Output.{Begins}
 use Rattle.ruled_io.specs.declared.fault.InputFault.{InputFault}
 use Rattle.ruled_io.specs.declared.fault.InputFault.TheVariants as input
 use Rattle.ruled_io.specs.declared.fault.RunFault.{RunFault}
 use Rattle.ruled_io.specs.declared.fault.RunFault.TheVariants.{Input, Read, Closed, Write}
+use Rattle.ruled_io.specs.declared.program.Remarks.{Remarks}
 use Rattle.ruled_io.specs.declared.request.Request.{Request}
 use Rattle.ruled_io.specs.declared.request.Rows as rows
 use Rattle.ruled_io.specs.declared.request.Rows.TheVariants.{AtOnce, FromFirst}
@@ -70,9 +71,12 @@ CausedAll request bytes fault =
     LacksRows (rows_needed request.view) request.source bytes fault
     ⊎ ((rows : List (List Text)) × AreRows (rows_needed request.view) request.source bytes rows × (option_map fault_of_view (table_fault request.view rows) ≡ Some fault))
 
--- so many rows are padded
-abbrev pub PadsAll : Request → List ℕ → ℕ → Type 0
-PadsAll request bytes count = (rows : List (List Text)) × AreRows (rows_needed request.view) request.source bytes rows × (count ≡ padded_rows request.view rows)
+-- what is remarked on rows: how many are padded, and how wide the lines of their table are, if that is more than the width that is set
+abbrev pub remarks_on : Request → List (List Text) → Remarks
+remarks_on request rows = record { padded = padded_rows request.view rows; wide = table_excess request.view rows }
+
+abbrev pub RemarksAll : Request → List ℕ → Remarks → Type 0
+RemarksAll request bytes remarks = (rows : List (List Text)) × AreRows (rows_needed request.view) request.source bytes rows × (remarks ≡ remarks_on request rows)
 
 -- ---- a run
 
@@ -84,13 +88,13 @@ ShowsBy (FromFirst count) request bytes text = (streamed_fault request count byt
 abbrev pub Shows : Request → List ℕ → Text → Type 0
 Shows request bytes text = ShowsBy request.rows request bytes text
 
--- how many rows a run pads: row by row none
-abbrev pub PadsBy : rows.Rows → Request → List ℕ → ℕ → Type 0
-PadsBy AtOnce request bytes count = PadsAll request bytes count
-PadsBy (FromFirst first) request bytes count = count ≡ 0
+-- what a run remarks on it
+abbrev pub RemarksBy : rows.Rows → Request → List ℕ → Remarks → Type 0
+RemarksBy AtOnce request bytes remarks = RemarksAll request bytes remarks
+RemarksBy (FromFirst count) request bytes remarks = remarks ≡ streamed_remarks request count bytes
 
-abbrev pub Pads : Request → List ℕ → ℕ → Type 0
-Pads request bytes count = PadsBy request.rows request bytes count
+abbrev pub AreRemarks : Request → List ℕ → Remarks → Type 0
+AreRemarks request bytes remarks = RemarksBy request.rows request bytes remarks
 
 -- at once: a beginning of the picture of the rows is written
 abbrev pub IsBegun : Request → List ℕ → Option (List ℕ) → Option (List ℕ) → Type 0

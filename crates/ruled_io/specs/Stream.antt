@@ -6,6 +6,7 @@ use Rattle.pg_layout.specs.Text.{Text}
 use Rattle.ruled_table.specs.Layouts.{first_fault, layout_of, whole_text}
 use Rattle.ruled_table.specs.Plans.{Plan}
 use Rattle.ruled_table.specs.RowLines.{HasNoRoom, begun_text}
+use Rattle.ruled_table.specs.View.{excess_of}
 use Rattle.ruled_io.specs.Faults.{but_line, is_failure, of_view}
 use Rattle.ruled_io.specs.Formats.{content_of, format_streamed}
 use Rattle.ruled_io.specs.Reading.{sound_rows, wrong_in}
@@ -19,6 +20,7 @@ use Rattle.ruled_io.specs.declared.fault.StreamedFault.TheVariants.{Database}
 use Rattle.ruled_io.specs.declared.formats.Format.{Format}
 use Rattle.ruled_io.specs.declared.formats.Format.TheVariants.{Separated, Json, JsonLines}
 use Rattle.ruled_table.specs.declared.options.Options.{Options}
+use Rattle.ruled_io.specs.declared.program.Remarks.{Remarks}
 use Rattle.ruled_io.specs.declared.request.Request.{Request}
 
 -- ---- how many rows are first
@@ -60,6 +62,10 @@ module _ (options : Options) (count : ℕ) (rows : List (List Text)) (wrong : Op
   abbrev pub shown_text : Text
   shown_text = if is_some first_wrong then [] else lines_in options first_plan rows wrong
 
+  -- what is remarked: no row is padded, and how wide the lines are, if that is more than the width that is set
+  abbrev pub first_remarks : Remarks
+  first_remarks = record { padded = 0; wide = if length rows == 0 then None else excess_of options.bounds.width first_plan }
+
   module _ (old new : Option (List ℕ)) where
     -- the lines above a row that no room is left for
     abbrev pub FallsShort : Type 0
@@ -77,8 +83,8 @@ module _ (options : Options) (count : ℕ) (rows : List (List Text)) (wrong : Op
     IsStopped fault = Begins old new shown_text × (is_failure fault ≡ false → Stops fault)
 
     -- else nothing is wrong, and all is written
-    abbrev pub Ends : {X : Type 0} → Result X RunFault → Type 0
-    Ends (Ok x) = (first_wrong ≡ None) × (wrong ≡ None) × Appends old new shown_text
+    abbrev pub Ends : Result Remarks RunFault → Type 0
+    Ends (Ok remarks) = (first_wrong ≡ None) × (wrong ≡ None) × Appends old new shown_text × (remarks ≡ first_remarks)
     Ends (Err fault) = IsStopped fault
 
 -- ---- an input
@@ -98,7 +104,7 @@ module _ (request : Request) (count : ℕ) (bytes : List ℕ) where
   streamed_count = first_count request.view streamed_format count
 
 -- what becomes of it
-abbrev pub StreamsAll : {X : Type 0} → Request → ℕ → List ℕ → Option (List ℕ) → Option (List ℕ) → Result X RunFault → Type 0
+abbrev pub StreamsAll : Request → ℕ → List ℕ → Option (List ℕ) → Option (List ℕ) → Result Remarks RunFault → Type 0
 StreamsAll request count bytes old new result =
     Ends request.view (streamed_count request count bytes) (streamed_rows request count bytes) (streamed_wrong request count bytes) old new result
 
@@ -106,6 +112,9 @@ StreamsAll request count bytes old new result =
 module _ (request : Request) (count : ℕ) (bytes : List ℕ) where
   abbrev pub streamed_text : Text
   streamed_text = shown_text request.view (streamed_count request count bytes) (streamed_rows request count bytes) (streamed_wrong request count bytes)
+
+  abbrev pub streamed_remarks : Remarks
+  streamed_remarks = first_remarks request.view (streamed_count request count bytes) (streamed_rows request count bytes) (streamed_wrong request count bytes)
 
   abbrev pub streamed_fault : Option RunFault
   streamed_fault = first_wrong request.view (streamed_count request count bytes) (streamed_rows request count bytes) (streamed_wrong request count bytes)

@@ -10,12 +10,12 @@ ghost use Rattle.ruled_table.specs.Blocks.{blocks_fault, blocks_text, record_blo
 ghost use Rattle.ruled_table.specs.Columns.{column_fault};
 ghost use Rattle.ruled_table.specs.Layouts.{layout_of, start_fault, whole_text};
 ghost use Rattle.ruled_table.specs.Plans.{Plan, is_always, plan_in};
-ghost use Rattle.ruled_table.specs.View.{all_fault, all_text, table_fault, table_text, whole_table};
+ghost use Rattle.ruled_table.specs.View.{all_excess, all_fault, all_text, table_excess, table_fault, table_text, whole_table};
 ghost use Rattle.ruled_io.specs.Faults.{is_early, is_of_write, is_read};
 ghost use Rattle.ruled_io.specs.Output.{TellsWrite, failure_in, failure_of, write_part, Begins};
 ghost use Rattle.ruled_io.specs.Reading.{ReportsRead, read_failure};
 ghost use Rattle.ruled_io.specs.Requests.{rows_needed};
-ghost use Rattle.ruled_io.specs.Runs.{AreRows, CausedAtOnce, LacksInput, PadsAll, ShowsAll};
+ghost use Rattle.ruled_io.specs.Runs.{AreRows, CausedAtOnce, LacksInput, RemarksAll, ShowsAll};
 ghost use Rattle.ruled_io.specs.Steps.{Draws, DrawsInMemory};
 ghost use Rattle.ruled_io.specs.declared.fault.RunFault.{RunFault};
 ghost use Rattle.ruled_table.specs.declared.options.Options.{Options};
@@ -25,6 +25,7 @@ use crate::heads::{read_heads, rows_needed};
 use crate::lines::{write_end, write_rows};
 use crate::output::Output;
 use crate::pieces::Pieces;
+use crate::program::Remarks;
 use crate::request::Request;
 use csv::StringRecord;
 use ruled_table::{Blocks, Layout, Options, TableRows, chosen_rows, padded_rows};
@@ -177,89 +178,99 @@ fn show_blocks<W: Write + Drop>(
     write_blocks(alloc, &blocks, below_names(rows), out)
 }
 
-// Shows rows as one table, unless columns would be left out of it and blocks are asked for then.
+// Shows rows as one table, unless columns would be left out of it and blocks are asked for then, and returns how wide
+// its lines are, if that is more than the width that is set.
 fn show_measured<W: Write + Drop>(
     alloc: Global,
     options: &Options,
     mut rows: Vec<StringRecord>,
     out: &mut Output<W>,
-) -> Result<(), RunFault>
+) -> Result<Option<usize>, RunFault>
     ensures draws { column_fault options.now.columns.items (map fields_of rows.items) ≡ None → is_always options.now.vertical ≡ false
         → Draws (all_text options.now (map fields_of rows.items)) (all_fault options.now (map fields_of rows.items)) (W.contents out.old.writer) (W.contents out.new.writer) result }
     ensures told { TellsWrite (failure_of out.old) (failure_of out.new) result }
+    ensures wide { IfOk result (λ wide. wide ≡ all_excess options.now (map fields_of rows.items)) }
 {
     if rows.is_empty() {
-        return Ok(());
+        return Ok(None);
     }
     let layout = Layout::of_rows(alloc, options, usize::MAX, &mut rows)?;
     if layout.is_in_blocks(options.vertical) {
-        return show_blocks(alloc, options, &rows, out);
+        return show_blocks(alloc, options, &rows, out).and(Ok(None));
     }
-    show_table(alloc, options, &layout, &rows, out)
+    let wide = layout.excess(options.bounds.width);
+    show_table(alloc, options, &layout, &rows, out).and(Ok(wide))
 }
 
-// Shows these rows as one table, or as blocks.
+// Shows these rows as one table, or as blocks, and returns how wide the lines of the table are, if that is more than
+// the width that is set.
 fn show_chosen<W: Write + Drop>(
     alloc: Global,
     options: &Options,
     rows: Vec<StringRecord>,
     out: &mut Output<W>,
-) -> Result<(), RunFault>
+) -> Result<Option<usize>, RunFault>
     ensures draws { column_fault options.now.columns.items (map fields_of rows.items) ≡ None
         → Draws (all_text options.now (map fields_of rows.items)) (all_fault options.now (map fields_of rows.items)) (W.contents out.old.writer) (W.contents out.new.writer) result }
     ensures told { TellsWrite (failure_of out.old) (failure_of out.new) result }
+    ensures wide { IfOk result (λ wide. wide ≡ all_excess options.now (map fields_of rows.items)) }
 {
     if options.vertical.is_always() {
-        return show_blocks(alloc, options, &rows, out);
+        return show_blocks(alloc, options, &rows, out).and(Ok(None));
     }
     show_measured(alloc, options, rows, out)
 }
 
-// Shows those of all rows that are asked, and the line below them.
+// Shows those of all rows that are asked, and the line below them, and returns how wide the lines of their table are,
+// if that is more than the width that is set.
 fn show_rows<W: Write + Drop>(
     alloc: Global,
     options: &Options,
     rows: Vec<StringRecord>,
     out: &mut Output<W>,
-) -> Result<(), RunFault>
+) -> Result<Option<usize>, RunFault>
     ensures draws { Draws (table_text options.now (map fields_of rows.items)) (table_fault options.now (map fields_of rows.items)) (W.contents out.old.writer) (W.contents out.new.writer) result }
     ensures told { TellsWrite (failure_of out.old) (failure_of out.new) result }
+    ensures wide { IfOk result (λ wide. wide ≡ table_excess options.now (map fields_of rows.items)) }
 {
     let chosen = chosen_rows(alloc, options, rows)?;
-    show_chosen(alloc, options, chosen.rows, out)?;
-    out.write(chosen.count.as_bytes())
+    let wide = show_chosen(alloc, options, chosen.rows, out)?;
+    out.write(chosen.count.as_bytes()).and(Ok(wide))
 }
 
-// Shows what was written, and returns how many rows were padded.
-fn flush_padded<W: Write + Drop>(out: &mut Output<W>, padded: usize) -> Result<usize, RunFault>
+// Shows what was written, and returns what is remarked on it.
+fn flush_remarked<W: Write + Drop>(
+    out: &mut Output<W>,
+    remarks: Remarks,
+) -> Result<Remarks, RunFault>
     ensures kept { Keeps (W.contents out.old.writer) (W.contents out.new.writer) }
     ensures told { failure_of out.new ≡ failure_in result }
     ensures fine { OnOk result (failure_of out.old ≡ None) }
     ensures failed { (fault : RunFault) → result ≡ Err fault → is_of_write fault ≡ true }
-    ensures padded { IfOk result (λ count. count ≡ padded) }
+    ensures remarks { IfOk result (λ told. told ≡ remarks) }
 {
     match out.flush() {
-        Ok(()) => Ok(padded),
+        Ok(()) => Ok(remarks),
         Err(fault) => Err(fault),
     }
 }
 
-/// Shows the rows that are asked of an input when all of them are there, and returns how many of them are padded.
+/// Shows the rows that are asked of an input when all of them are there, and returns what is remarked on them.
 pub(crate) fn show_at_once<R: Read + Drop, W: Write + Drop>(
     alloc: Global,
     request: &Request,
     pieces: &mut Pieces<R>,
     out: &mut Output<W>,
-) -> Result<usize, RunFault>
+) -> Result<Remarks, RunFault>
     ensures shown { OnOk result (IfSome (R.remaining pieces.old.input) (λ bytes. (text : _) × ShowsAll request.now bytes text × Appends (W.contents out.old.writer) (W.contents out.new.writer) text)) }
     ensures cause { IfErr result (λ fault. IfSome (R.remaining pieces.old.input) (λ bytes. CausedAtOnce request.now bytes fault (W.contents out.old.writer) (W.contents out.new.writer))) }
     ensures unwritten { IfErr result (λ fault. is_early fault ≡ true → Keeps (W.contents out.old.writer) (W.contents out.new.writer)) }
     ensures told { TellsWrite (failure_of out.old) (failure_of out.new) result }
     ensures noted { ReportsRead (read_failure pieces.new) result }
-    ensures padded { IfOk result (λ count. IfSome (R.remaining pieces.old.input) (λ bytes. PadsAll request.now bytes count)) }
+    ensures remarks { IfOk result (λ remarks. IfSome (R.remaining pieces.old.input) (λ bytes. RemarksAll request.now bytes remarks)) }
 {
     let rows = read_rows(alloc, request, pieces)?;
     let padded = padded_rows(&request.view, &rows);
-    show_rows(alloc, &request.view, rows, out)?;
-    flush_padded(out, padded)
+    let wide = show_rows(alloc, &request.view, rows, out)?;
+    flush_remarked(out, Remarks { padded, wide })
 }

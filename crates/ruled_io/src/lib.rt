@@ -29,6 +29,6 @@ pub use crate::laws::both_ways_show_one_text;
 pub use crate::name::{OneLine, Quoted};
 pub use crate::output::Output;
 pub use crate::pieces::Pieces;
-pub use crate::program::{Ending, run};
+pub use crate::program::{Ending, Remarks, run};
 pub use crate::request::{Log, Query, Request, Rows, Selection, Source};
 pub use ruled_csv::{Dialect, Fields, RowRules};

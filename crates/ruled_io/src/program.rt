@@ -6,8 +6,7 @@ ghost use Rattle.std.specs.Result.{result_err};
 ghost use Rattle.ruled_io.specs.Faults.{is_early, is_read, read_part, status_after};
 ghost use Rattle.ruled_io.specs.Output.{TellsWrite, failure_of, fault_written, written};
 ghost use Rattle.ruled_io.specs.Reading.{ReportsRead, read_failure, left_in};
-ghost use Rattle.ruled_io.specs.Runs.{Caused, Pads, Shows};
-ghost use Rattle.ruled_io.specs.Stream.{StreamsAll};
+ghost use Rattle.ruled_io.specs.Runs.{AreRemarks, Caused, Shows};
 ghost use Rattle.ruled_io.specs.declared.fault.RunFault.{RunFault};
 ghost use Rattle.ruled_io.specs.declared.request.Rows.{Rows};
 
@@ -17,17 +16,35 @@ use crate::output::Output;
 use crate::pieces::Pieces;
 use crate::request::{Request, Rows};
 use crate::stream::stream;
+use ruled_table::Options;
 use std::alloc::Global;
 use std::io;
 use std::io::{Read, Write};
+
+/// What a run remarks on a table that it has shown.
+#[derive(Clone, Copy)]
+pub struct Remarks {
+    /// How many rows had fewer fields than there are columns, and were padded.
+    pub padded: usize,
+    /// How many terminal columns a line takes, if these are more than the width that is set. Of blocks it isn't said.
+    pub wide: Option<usize>,
+}
+
+impl Remarks {
+    /// There is nothing to remark.
+    pub(crate) const NONE: Remarks = Remarks {
+        padded: 0,
+        wide: None,
+    };
+}
 
 /// How a run ended.
 #[derive(Clone, Copy)]
 pub struct Ending {
     /// Why no table was shown, or not all of it; `None` if all was.
     pub fault: Option<RunFault>,
-    /// How many rows had fewer fields than there are columns, and were padded.
-    pub padded: usize,
+    /// What was remarked on it, if all was.
+    pub remarks: Remarks,
 }
 
 impl Ending {
@@ -42,42 +59,23 @@ impl Ending {
     }
 }
 
-// Shows the table of the input row by row, which pads no row.
-fn show_by_row<R: Read + Drop, W: Write + Drop>(
-    alloc: Global,
-    request: &Request,
-    count: usize,
-    pieces: &mut Pieces<R>,
-    out: &mut Output<W>,
-) -> Result<usize, RunFault>
-    ensures ends { IfSome (R.remaining pieces.old.input) (λ bytes. StreamsAll request.now count bytes (W.contents out.old.writer) (W.contents out.new.writer) result) }
-    ensures told { TellsWrite (failure_of out.old) (failure_of out.new) result }
-    ensures noted { ReportsRead (read_failure pieces.new) result }
-    ensures padded { IfOk result (λ padded. padded ≡ 0) }
-{
-    match stream(alloc, request, count, pieces, out) {
-        Ok(()) => Ok(0),
-        Err(fault) => Err(fault),
-    }
-}
-
-// Shows the table of the input, at once or row by row, and returns how many rows are padded.
+// Shows the table of the input, at once or row by row, and returns what is remarked on it.
 fn show<R: Read + Drop, W: Write + Drop>(
     alloc: Global,
     request: &Request,
     pieces: &mut Pieces<R>,
     out: &mut Output<W>,
-) -> Result<usize, RunFault>
+) -> Result<Remarks, RunFault>
     ensures shown { OnOk result (IfSome (R.remaining pieces.old.input) (λ bytes. (text : _) × Shows request.now bytes text × Appends (W.contents out.old.writer) (W.contents out.new.writer) text)) }
     ensures cause { IfErr result (λ fault. IfSome (R.remaining pieces.old.input) (λ bytes. Caused request.now bytes fault (W.contents out.old.writer) (W.contents out.new.writer))) }
     ensures unwritten { request.now.rows ≡ Rows.AtOnce → IfErr result (λ fault. is_early fault ≡ true → Keeps (W.contents out.old.writer) (W.contents out.new.writer)) }
     ensures told { TellsWrite (failure_of out.old) (failure_of out.new) result }
     ensures noted { ReportsRead (read_failure pieces.new) result }
-    ensures padded { IfOk result (λ count. IfSome (R.remaining pieces.old.input) (λ bytes. Pads request.now bytes count)) }
+    ensures remarks { IfOk result (λ remarks. IfSome (R.remaining pieces.old.input) (λ bytes. AreRemarks request.now bytes remarks)) }
 {
     match request.rows {
         Rows::AtOnce => show_at_once(alloc, request, pieces, out),
-        Rows::FromFirst(count) => show_by_row(alloc, request, count, pieces, out),
+        Rows::FromFirst(count) => stream(alloc, request, count, pieces, out),
     }
 }
 
@@ -93,30 +91,55 @@ fn tell_padded<W: Write>(padded: usize, err: &mut W) -> io::Result<()>
     err.flush()
 }
 
-// The ending of a run with this result. Its fault is reported, unless nobody reads the output, and so are padded rows.
-fn ending_of<W: Write>(answer: Result<usize, RunFault>, request: &Request, err: &mut W) -> Ending
+// Writes how wide a table is, if that is more than the width that is set. An error is the writer's.
+fn tell_wide<W: Write>(wide: Option<usize>, options: &Options, err: &mut W) -> io::Result<()>
+    ensures { wide ≡ None → Keeps (W.contents err.old) (W.contents err.new) }
+{
+    let Some(wide) = wide else {
+        return Ok(());
+    };
+    let Some(width) = options.bounds.width else {
+        return Ok(());
+    };
+    writeln!(
+        err,
+        "ruled: the table is {wide} columns wide, not {width}; see --omit and --vertical"
+    )?;
+    err.flush()
+}
+
+// Writes what is remarked on a table, if anything is. An error is the writer's.
+fn tell<W: Write>(remarks: Remarks, options: &Options, err: &mut W) -> io::Result<()>
+    ensures { remarks.padded ≡ 0 → remarks.wide ≡ None → Keeps (W.contents err.old) (W.contents err.new) }
+{
+    tell_padded(remarks.padded, err)?;
+    tell_wide(remarks.wide, options, err)
+}
+
+// The ending of a run with this result. Its fault is reported, unless nobody reads the output, and so are remarks.
+fn ending_of<W: Write>(answer: Result<Remarks, RunFault>, request: &Request, err: &mut W) -> Ending
     ensures fault { result.fault ≡ result_err answer }
-    ensures padded { IfOk answer (λ count. result.padded ≡ count) }
-    ensures silent { result.fault ≡ None → result.padded ≡ 0 → Keeps (W.contents err.old) (W.contents err.new) }
+    ensures remarks { IfOk answer (λ remarks. result.remarks ≡ remarks) }
+    ensures silent { result.fault ≡ None → result.remarks.padded ≡ 0 → result.remarks.wide ≡ None → Keeps (W.contents err.old) (W.contents err.new) }
     ensures closed { result.fault ≡ Some RunFault.Closed → Keeps (W.contents err.old) (W.contents err.new) }
 {
     match answer {
-        Ok(padded) => {
-            let _ = tell_padded(padded, err);
+        Ok(remarks) => {
+            let _ = tell(remarks, &request.view, err);
             Ending {
                 fault: None,
-                padded,
+                remarks,
             }
         }
         Err(RunFault::Closed) => Ending {
             fault: Some(RunFault::Closed),
-            padded: 0,
+            remarks: Remarks::NONE,
         },
         Err(fault) => {
             let _ = fault.tell(request, err);
             Ending {
                 fault: Some(fault),
-                padded: 0,
+                remarks: Remarks::NONE,
             }
         }
     }
@@ -139,7 +162,8 @@ fn ending_of<W: Write>(answer: Result<usize, RunFault>, request: &Request, err: 
 /// whose lines can't be counted.
 ///
 /// Each fault is one line on `err`, except that nothing is reported where nobody reads what is written. If rows were
-/// padded, one line says how many. A failed write to `err` changes no result. `Closed` and `Write` are returned if a
+/// padded, one line says how many, and if a table is wider than the width that is set, one says how wide it is. A
+/// failed write to `err` changes no result. `Closed` and `Write` are returned if a
 /// write to `out` has failed so, and only then; `Read` only if a read of `input` has failed.
 pub fn run<R: Read + Drop, W1: Write + Drop, W2: Write>(
     alloc: Global,
@@ -154,8 +178,8 @@ pub fn run<R: Read + Drop, W1: Write + Drop, W2: Write>(
     ensures unwritten { request.now.rows ≡ Rows.AtOnce → IfSome result.fault (λ fault. is_early fault ≡ true → Keeps (written W1.contents out.old) (written W1.contents out.new)) }
     ensures failed { failure_of out.old ≡ None → failure_of out.new ≡ fault_written result.fault }
     ensures read { IfSome result.fault (λ fault. is_read fault ≡ true → read_failure input.new ≡ read_part fault) }
-    ensures padded { result.fault ≡ None → IfSome (left_in R.remaining input.old) (λ bytes. Pads request.now bytes result.padded) }
-    ensures silent { result.fault ≡ None → result.padded ≡ 0 → Keeps (W2.contents err.old) (W2.contents err.new) }
+    ensures remarks { result.fault ≡ None → IfSome (left_in R.remaining input.old) (λ bytes. AreRemarks request.now bytes result.remarks) }
+    ensures silent { result.fault ≡ None → result.remarks.padded ≡ 0 → result.remarks.wide ≡ None → Keeps (W2.contents err.old) (W2.contents err.new) }
     ensures closed { result.fault ≡ Some RunFault.Closed → Keeps (W2.contents err.old) (W2.contents err.new) }
 {
     ending_of(show(alloc, request, input, out), request, err)

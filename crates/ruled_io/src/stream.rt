@@ -20,6 +20,7 @@ use crate::formats::{Format, content_of, format_streamed};
 use crate::lines::{write_end, write_rows};
 use crate::output::Output;
 use crate::pieces::Pieces;
+use crate::program::Remarks;
 use crate::reader::Reading;
 use crate::request::Request;
 use csv::StringRecord;
@@ -96,7 +97,7 @@ pub(crate) fn wrong_within(reading: &Reading, count: usize, rows: usize) -> Opti
     }
 }
 
-// Shows the table whose first rows are there.
+// Shows the table whose first rows are there, and returns what is remarked on it.
 fn show_table<R: Read + Drop, W: Write + Drop>(
     alloc: Global,
     options: &Options,
@@ -105,7 +106,7 @@ fn show_table<R: Read + Drop, W: Write + Drop>(
     mut rows: Vec<StringRecord>,
     pieces: &mut Pieces<R>,
     out: &mut Output<W>,
-) -> Result<(), RunFault>
+) -> Result<Remarks, RunFault>
     ensures ends { (format : Format) (records : ℕ) (all : List ℕ) → 0 < count → IsEnough count (map fields_of rows.items) reading
         → Stands format records all (R.remaining pieces.old.input) (map fields_of rows.items) reading
         → Ends options.now count (sound_rows format records all) (wrong_in format records all) (W.contents out.old.writer) (W.contents out.new.writer) result }
@@ -116,11 +117,16 @@ fn show_table<R: Read + Drop, W: Write + Drop>(
         return Err(RunFault::Input(fault));
     }
     if rows.is_empty() {
-        return Ok(());
+        return Ok(Remarks {
+            padded: 0,
+            wide: None,
+        });
     }
     let layout = Layout::of_rows(alloc, options, count, &mut rows)?;
     let table = TableRows::new(alloc, options, &layout)?;
-    write_table(alloc, table, reading, rows, pieces, out)
+    let wide = layout.excess(options.bounds.width);
+    let answer = write_table(alloc, table, reading, rows, pieces, out);
+    answer.and(Ok(Remarks { padded: 0, wide }))
 }
 
 // How many records are first, at least one.
@@ -162,7 +168,7 @@ fn show_rows<R: Read + Drop, W: Write + Drop>(
     front: &[u8],
     pieces: &mut Pieces<R>,
     out: &mut Output<W>,
-) -> Result<(), RunFault>
+) -> Result<Remarks, RunFault>
     ensures ends { (rest : List ℕ) → R.remaining pieces.old.input ≡ Some rest
         → Ends options.now (first_count options.now format count) (sound_rows format (record_count count) (front.now ++ rest))
         (wrong_in format (record_count count) (front.now ++ rest)) (W.contents out.old.writer) (W.contents out.new.writer) result }
@@ -183,7 +189,7 @@ fn show_input<R: Read + Drop, W: Write + Drop>(
     count: usize,
     pieces: &mut Pieces<R>,
     out: &mut Output<W>,
-) -> Result<(), RunFault>
+) -> Result<Remarks, RunFault>
     ensures ends { IfSome (R.remaining pieces.old.input) (λ bytes. StreamsAll request.now count bytes (W.contents out.old.writer) (W.contents out.new.writer) result) }
     ensures told { TellsWrite (failure_of out.old) (failure_of out.new) result }
     ensures noted { ReportsRead (read_failure pieces.new) result }
@@ -199,9 +205,9 @@ fn show_input<R: Read + Drop, W: Write + Drop>(
 
 // Flushes the output after its end, whatever the result is.
 fn show_to_end<W: Write + Drop>(
-    answer: Result<(), RunFault>,
+    answer: Result<Remarks, RunFault>,
     out: &mut Output<W>,
-) -> Result<(), RunFault>
+) -> Result<Remarks, RunFault>
     ensures kept { Keeps (W.contents out.old.writer) (W.contents out.new.writer) }
     ensures fine { OnOk result (answer ≡ result) }
     ensures early { (fault : RunFault) → result ≡ Err fault → is_failure fault ≡ false → answer ≡ result }
@@ -213,14 +219,14 @@ fn show_to_end<W: Write + Drop>(
 }
 
 /// Shows the rows that the bytes of an input hold one after another, each when it comes, in the layout of the first so
-/// many.
+/// many, and returns what is remarked on their table.
 pub(crate) fn stream<R: Read + Drop, W: Write + Drop>(
     alloc: Global,
     request: &Request,
     count: usize,
     pieces: &mut Pieces<R>,
     out: &mut Output<W>,
-) -> Result<(), RunFault>
+) -> Result<Remarks, RunFault>
     ensures ends { IfSome (R.remaining pieces.old.input) (λ bytes. StreamsAll request.now count bytes (W.contents out.old.writer) (W.contents out.new.writer) result) }
     ensures told { TellsWrite (failure_of out.old) (failure_of out.new) result }
     ensures noted { ReportsRead (read_failure pieces.new) result }

@@ -1,11 +1,13 @@
 -- The text of rows, and why there is none.
-use Rattle.std.specs.Prelude.{Bool, List, ◌∷◌, ◌++◌, [], Option, None, if◌then◌else◌}
-use Rattle.std.specs.Option.{option_or}
+use Rattle.std.specs.Prelude.{ℕ, ◌==◌, nat_lt, Bool, List, ◌∷◌, ◌++◌, [], length, Option, Some, None, if◌then◌else◌}
+use Rattle.std.specs.Option.{option_and_then, option_or}
 use Rattle.pg_layout.specs.Text.{Text}
+use Rattle.pg_picture.specs.Sizes.{if_fits}
+use Rattle.pg_picture.specs.Table.{full_width}
 use Rattle.ruled_table.specs.Arranged.{chosen_fault, chosen_rows, count_text}
 use Rattle.ruled_table.specs.Blocks.{blocks_fault, blocks_text}
-use Rattle.ruled_table.specs.Layouts.{first_fault, layout_fault, layout_of, whole_text}
-use Rattle.ruled_table.specs.Plans.{is_in_blocks}
+use Rattle.ruled_table.specs.Layouts.{first_fault, layout_fault, layout_of, table_of, whole_text}
+use Rattle.ruled_table.specs.Plans.{Plan, is_in_blocks}
 use Rattle.ruled_table.specs.declared.fault.ViewFault.{ViewFault}
 use Rattle.ruled_table.specs.declared.options.Options.{Options}
 use Rattle.ruled_table.specs.declared.options.Vertical.{Vertical}
@@ -40,6 +42,15 @@ abbrev pub all_fault : Options → List (List Text) → Option ViewFault
 all_fault options rows =
     option_or (measured_fault options.vertical options rows) (if shows_blocks options rows then blocks_fault options rows else whole_fault options rows)
 
+-- how wide the lines of a table by this plan are, if that can be counted, and is more than the width that is set
+abbrev pub excess_of : Option ℕ → Plan → Option ℕ
+excess_of None plan = None
+excess_of (Some width) plan = option_and_then (λ line. if nat_lt width line then Some line else None) (if_fits (full_width (table_of plan [])))
+
+-- that of the table of rows; of blocks it isn't said
+abbrev pub all_excess : Options → List (List Text) → Option ℕ
+all_excess options rows = if length rows == 0 then None else if shows_blocks options rows then None else excess_of options.bounds.width (layout_of options rows)
+
 -- ---- of those that are shown of an input's rows
 
 -- and the line below that counts
@@ -49,3 +60,7 @@ table_text options rows = all_text options (chosen_rows options rows) ++ count_t
 -- why there is none: the words for columns, or the sizes
 abbrev pub table_fault : Options → List (List Text) → Option ViewFault
 table_fault options rows = option_or (chosen_fault options rows) (all_fault options (chosen_rows options rows))
+
+-- how wide its lines are, if that is more than the width that is set
+abbrev pub table_excess : Options → List (List Text) → Option ℕ
+table_excess options rows = all_excess options (chosen_rows options rows)

@@ -7,6 +7,7 @@ ghost use Rattle.ruled_table.specs.Layouts as spec;
 ghost use Rattle.ruled_table.specs.LentRows.{texts_at};
 ghost use Rattle.ruled_table.specs.Plans.{is_in_blocks, leaves_columns_out, plan_in};
 ghost use Rattle.ruled_table.specs.Shown.{shown_text};
+ghost use Rattle.ruled_table.specs.View.{excess_of};
 
 use crate::columns::places_of;
 use crate::fault::ViewFault;
@@ -18,6 +19,7 @@ use crate::widths::{first_config, sizes_of_rows};
 use csv::StringRecord;
 use pg_config::SpannedConfig;
 use pg_layout::ConstantDimension;
+use pg_picture::fits::full_width;
 use std::alloc::{AllocError, Global};
 use std::marker::Model;
 
@@ -143,6 +145,18 @@ impl Layout {
             Vertical::IfOmitting => self.leaves_columns_out(),
             Vertical::Always => true,
         }
+    }
+
+    /// How many terminal columns a line of the table takes, if these are more than the width that is set.
+    ///
+    /// It is also `None` if they exceed `usize::MAX`, of which there is no table.
+    #[tactic(auto, unfolding(pg_picture::specs::Table::full_width, pg_picture::specs::Table::total_width))]
+    pub fn excess(&self, width: Option<u32>) -> Option<usize>
+        ensures { result ≡ excess_of width (plan_in self.now) }
+    {
+        let width = width? as usize;
+        let line = full_width(&self.config, &self.widths, self.places.len())?;
+        if line > width { Some(line) } else { None }
     }
 
     // The layout of so many first rows, each text of which is shown as it stands. Meanwhile a ruler

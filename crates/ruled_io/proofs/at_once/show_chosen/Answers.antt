@@ -1,13 +1,16 @@
-use Rattle.std.proofs.Common.{◌≡◌, List, None, map, refl, ap, subst, true, rules}
+use Rattle.std.proofs.Common.{◌≡◌, ℕ, List, Option, None, map, refl, ap, subst, true, rules}
 use Rattle.csv.specs.Records.{fields_of}
 use Rattle.pg_layout.specs.Text.{Text}
 use Rattle.ruled_table.specs.Blocks.{blocks_fault, blocks_text}
 use Rattle.ruled_table.specs.Columns.{column_fault}
 use Rattle.ruled_table.specs.Plans.{is_always}
-use Rattle.ruled_table.specs.View.{all_fault, all_text}
+use Rattle.ruled_table.specs.View.{all_excess, all_fault, all_text}
 use Rattle.ruled_io.specs.Steps.{Draws}
-use Rattle.ruled_io.proofs.AtOnce.{always-blocks, same-draws}
+use Rattle.ruled_io.proofs.AtOnce.{always-blocks, blocks-always, blocks-excess, draws-with, returned-with, same-draws, told-with}
 use Rattle.ruled_io.proofs.at_once.show_chosen.Goals as goal
+
+abbrev no-width : Option ℕ
+no-width = None
 
 pub returns-then-is_always-clause-draws : goal.returns-then-is_always-clause-draws
 returns-then-is_always-clause-draws g c = λ named.
@@ -21,4 +24,15 @@ returns-then-is_always-clause-draws g c = λ named.
     let drawn : column_fault options.columns.items rows ≡ None → Draws (blocks_text options rows) (blocks_fault options rows) old new c.show_blocks.result =
     subst (λ (rs : List (List Text)). column_fault options.columns.items rs ≡ None → Draws (blocks_text options rs) (blocks_fault options rs) old new c.show_blocks.result) lent c.show_blocks.ensures.draws
     in
-    same-draws (blocks_text options rows) (all_text options rows) (blocks_fault options rows) (all_fault options rows) old new c.show_blocks.result text wrong (drawn named)
+    draws-with (all_text options rows) (all_fault options rows) old new c.show_blocks.result no-width c.and.result c.and.ensures
+    (same-draws (blocks_text options rows) (all_text options rows) (blocks_fault options rows) (all_fault options rows) old new c.show_blocks.result text wrong (drawn named))
+
+pub returns-then-is_always-clause-told : goal.returns-then-is_always-clause-told
+returns-then-is_always-clause-told g c = told-with _ _ c.show_blocks.result no-width c.and.result c.and.ensures c.show_blocks.ensures.told
+
+pub returns-then-is_always-clause-wide : goal.returns-then-is_always-clause-wide
+returns-then-is_always-clause-wide g c =
+    let options = c.args.options.now in
+    let rows : List (List Text) = map fields_of c.args.rows.items in
+    let always : is_always options.vertical ≡ true = search rules in
+    returned-with c.show_blocks.result no-width (all_excess options rows) c.and.result c.and.ensures (blocks-excess options rows (blocks-always options rows always))

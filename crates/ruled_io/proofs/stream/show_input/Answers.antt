@@ -8,6 +8,7 @@ use Rattle.ruled_io.specs.declared.fault.RunFault.{RunFault}
 use Rattle.ruled_io.specs.declared.fault.RunFault.TheVariants.{Input}
 use Rattle.ruled_io.specs.declared.fault.StreamedFault.TheVariants.{Database}
 use Rattle.ruled_io.specs.declared.formats.Known.{Known}
+use Rattle.ruled_io.specs.declared.program.Remarks.{Remarks}
 use Rattle.ruled_io.proofs.Inputs.{database-ends, if-known, if-more, rows-end-so}
 use Rattle.ruled_io.proofs.Shows.{failed-ends}
 use Rattle.ruled_io.proofs.Tables.{read-fails}
@@ -27,7 +28,7 @@ returns-then-is_database-clause-ends g c =
     let request = c.args.request.now in
     let old = g.W.Write.contents c.args.out.now.writer in
     let left = g.R.Read.remaining c.read_front.new.self.input in
-    let r : Result (Unit {0}) RunFault = Err (Input (Stream Database)) in
+    let r : Result Remarks RunFault = Err (Input (Stream Database)) in
     let holds : holds_database request.source c.in_ok-front.front.items ≡ true = ap (holds_database request.source) (sym c.deref.ensures.value) ∙ sym c.is_database.ensures ∙ c.if-is_database.true in
     if-more {P = λ all. ReadsFront request.source all left c.in_ok-front.front.items} {Q = λ bytes. StreamsAll request c.args.count bytes old old r} (g.R.Read.remaining c.args.pieces.now.input) c.in_ok-front.ensures.read
     (λ bytes is front. database-ends request c.args.count bytes old r (ap (holds_database request.source) front.1 ∙ front.3.0 ∙ holds) refl)

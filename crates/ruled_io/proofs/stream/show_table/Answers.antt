@@ -10,8 +10,10 @@ use Rattle.ruled_table.specs.Layouts.{first_fault, layout_fault, layout_of, star
 use Rattle.ruled_table.specs.declared.fault.ViewFault.{ViewFault}
 use Rattle.ruled_io.specs.Faults.{of_view}
 use Rattle.ruled_io.specs.declared.fault.RunFault.TheVariants.{Input}
+use Rattle.ruled_io.specs.declared.program.Remarks.{Remarks}
 use Rattle.ruled_io.specs.Reading.{Stands, sound_rows, wrong_in}
 use Rattle.ruled_io.specs.Steps.{wrong_within}
+use Rattle.ruled_io.proofs.AtOnce.{noted-with, told-with}
 use Rattle.ruled_io.proofs.Shows.{above-none, first-rows, judged, no-rows, none-ends, open-rows, refused-ends, short-rows, some-rows, table-ends, wrong-ends}
 use Rattle.ruled_io.proofs.stream.show_table.Goals as goal
 
@@ -33,7 +35,7 @@ returns-in-Some-clause-ends g c = λ format records all some enough stands.
     let long : length given ≡ length c.args.rows.items = length-map c.args.rows.items fields_of in
     let count : c.len.result ≡ length given = omega (arith, c.len.ensures, c.args.rows.ok, long) in
     let bad : wrong_within c.args.count (length given) c.args.reading ≡ Some c.in-Some.fault = ap (λ (n : ℕ). wrong_within c.args.count n c.args.reading) (sym count) ∙ sym c.wrong_within.ensures ∙ c.in-Some.is in
-    wrong-ends c.args.options.now c.args.count (sound_rows format records all) (wrong_in format records all) {X = Unit {0}} (g.W.Write.contents c.args.out.now.writer) c.in-Some.fault (Err (Input c.in-Some.fault)) refl
+    wrong-ends c.args.options.now c.args.count (sound_rows format records all) (wrong_in format records all) (g.W.Write.contents c.args.out.now.writer) c.in-Some.fault (Err (Input c.in-Some.fault)) refl
     (short-rows c.args.count format records all left given c.args.reading c.in-Some.fault stands bad)
 
 pub returns-in_err-layout-clause-ends : goal.returns-in_err-layout-clause-ends
@@ -83,7 +85,19 @@ returns-clause-ends g c = λ format records all some enough stands.
     let fine : layout_fault options (take c.args.count sound) ≡ None = ap (layout_fault options) (sym first) ∙ c.in_ok-layout.ensures.fault in
     let started : start_fault (layout_of options (take c.args.count sound)) ≡ None = ap start_fault (sym laid) ∙ c.in_ok-table.ensures.fault in
     let none : first_fault options (take c.args.count sound) ≡ None = ap (λ (w : Option ViewFault). option_or w (start_fault (layout_of options (take c.args.count sound)))) fine ∙ started in
-    table-ends options c.args.count sound (wrong_in format records all) (plan_in c.in_ok-layout.layout) (g.W.Write.contents c.args.out.now.writer) (g.W.Write.contents c.write_table.new.out.writer) c.write_table.result laid
-    (judged options c.args.count sound (wrong_in format records all) (open-rows c.args.count format records all left given c.args.reading enough stands clean) (some-rows c.args.count format records all left given c.args.reading above stands) ∙ ap (option_map of_view) none)
-    (c.write_table.ensures.ends options (plan_in c.in_ok-layout.layout) format records all []
+    let there = some-rows c.args.count format records all left given c.args.reading above stands in
+    table-ends options c.args.count sound (wrong_in format records all) (plan_in c.in_ok-layout.layout) (g.W.Write.contents c.args.out.now.writer) (g.W.Write.contents c.write_table-answer.new.out.writer) c.write_table-answer.result c.excess-wide.result c.and.result laid
+    (judged options c.args.count sound (wrong_in format records all) (open-rows c.args.count format records all left given c.args.reading enough stands clean) there ∙ ap (option_map of_view) none) there
+    (c.write_table-answer.ensures.ends options (plan_in c.in_ok-layout.layout) format records all []
     (subst (λ (rows : List (List Text)). Stands format records all left rows c.args.reading) (sym c.in_ok-layout.ensures.rows) stands) c.in_ok-table.ensures.begun)
+    c.excess-wide.ensures c.and.ensures
+
+pub returns-clause-told : goal.returns-clause-told
+returns-clause-told g c =
+    let remarks : Remarks = record { padded = 0; wide = c.excess-wide.result } in
+    told-with _ _ c.write_table-answer.result remarks c.and.result c.and.ensures c.write_table-answer.ensures.told
+
+pub returns-clause-noted : goal.returns-clause-noted
+returns-clause-noted g c =
+    let remarks : Remarks = record { padded = 0; wide = c.excess-wide.result } in
+    noted-with _ c.write_table-answer.result remarks c.and.result c.and.ensures c.write_table-answer.ensures.noted
