@@ -17,6 +17,8 @@ static RAGGED: [&str; 2] = ["pad", "cut"];
 
 static WHEN: [&str; 2] = ["always", "auto"];
 
+static COLORED: [&str; 3] = ["auto", "always", "never"];
+
 static SIDES: [&str; 5] = ["auto", "left", "right", "centre", "center"];
 
 /// What is to be shown.
@@ -45,6 +47,8 @@ struct Screen {
     columns: Option<u32>,
     /// Whether the output goes to it.
     is_output: bool,
+    /// Whether the variables let it show colours.
+    allows_color: bool,
 }
 
 /// What an argument takes.
@@ -73,6 +77,8 @@ enum Takes {
     Ragged,
     /// When something is done, behind `=`, or nothing.
     When,
+    /// When there is colour.
+    Color,
 }
 
 /// An argument of the command.
@@ -102,7 +108,7 @@ const FLAG: Choice = Choice {
 };
 
 /// All arguments, in the order of the help.
-const CHOICES: [Choice; 35] = [
+const CHOICES: [Choice; 36] = [
     Choice {
         name: "file",
         value: "FILE",
@@ -286,6 +292,13 @@ const CHOICES: [Choice; 35] = [
         ..FLAG
     },
     Choice {
+        name: "color",
+        value: "WHEN",
+        takes: Takes::Color,
+        help: "Print the header in bold; by default (auto) if the output is a terminal, unless NO_COLOR is set or TERM is dumb",
+        ..FLAG
+    },
+    Choice {
         name: "markdown",
         help: "Print a Markdown table, with bars, backslashes and line feeds of fields escaped",
         ..FLAG
@@ -397,6 +410,7 @@ fn argument<'a>(alloc: Global, choice: &Choice, looks: &'a [&'a str]) -> Arg<'a>
             .require_equals(true)
             .default_missing_value("always")
             .value_parser(WHEN.as_slice()),
+        Takes::Color => option(alloc, choice).value_parser(COLORED.as_slice()),
     }
 }
 
@@ -550,6 +564,16 @@ fn is_omitting(found: &ArgMatches, screen: Screen) -> bool {
     is_asked || (screen.is_output && !found.get_flag("no-omit"))
 }
 
+// Whether the header is bold: as is asked for, and else at a terminal that shows colours. Markdown has none.
+fn is_colored(found: &ArgMatches, screen: Screen) -> bool {
+    let is_bold = match found.get_str("color") {
+        Some("always") => true,
+        Some("never") => false,
+        _ => screen.is_output && screen.allows_color,
+    };
+    is_bold && !found.get_flag("markdown")
+}
+
 // When rows are shown as blocks.
 fn vertical_of(found: &ArgMatches) -> Vertical {
     match found.get_str("vertical") {
@@ -589,6 +613,7 @@ fn view_of(
         vertical: vertical_of(found),
         bounds: bounds_of(alloc, found, screen.columns)?,
         is_omitting: is_omitting(found, screen),
+        is_colored: is_colored(found, screen),
         is_raw: found.get_flag("raw"),
         is_markdown: found.get_flag("markdown"),
     })
@@ -626,13 +651,25 @@ fn table_of(
     })
 }
 
-// How many columns the terminal has, by the variable that says it.
-fn columns_told(rt: &HostRuntime) -> io::Result<Option<u32>> {
-    match env::var(rt, "COLUMNS") {
-        Ok(told) => Ok(told.parse::<u32>().ok()),
+// The value of a variable, or an empty text if it isn't set. One that isn't Unicode is `�`.
+fn variable(rt: &HostRuntime, name: &str) -> io::Result<String> {
+    match env::var(rt, name) {
+        Ok(value) => Ok(value),
         Err(VarError::OutOfMemory) => Err(io::ErrorKind::OutOfMemory.into()),
-        Err(_) => Ok(None),
+        Err(VarError::NotPresent) => Ok(String::new(rt.alloc())),
+        Err(VarError::NotUnicode) => Ok(String::from_str(rt.alloc(), "�")?),
     }
+}
+
+// What the variables and the output say of the terminal.
+fn screen_of(rt: &HostRuntime) -> io::Result<Screen> {
+    let columns = variable(rt, "COLUMNS")?;
+    let (no_color, term) = (variable(rt, "NO_COLOR")?, variable(rt, "TERM")?);
+    Ok(Screen {
+        columns: columns.parse::<u32>().ok(),
+        is_output: rt.stdout().is_terminal(),
+        allows_color: no_color.is_empty() && term.as_str() != "dumb",
+    })
 }
 
 // The names of all looks.
@@ -694,10 +731,7 @@ fn input_and_look(found: &ArgMatches) -> Result<(Source, Look), &'static str> {
 
 // What the arguments ask for that clap has read.
 fn asked_of(rt: &HostRuntime, found: &ArgMatches) -> io::Result<Asked> {
-    let screen = Screen {
-        columns: columns_told(rt)?,
-        is_output: rt.stdout().is_terminal(),
-    };
+    let screen = screen_of(rt)?;
     match input_and_look(found) {
         Ok((source, look)) => {
             let wanted = table_of(rt.alloc(), found, source, look, screen)?;

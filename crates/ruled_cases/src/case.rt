@@ -1,6 +1,6 @@
 //! Cases of a file.
 
-use crate::words::{push_bytes, push_input, set_bytes, set_option, split_times};
+use crate::words::{meant, push_bytes, push_input, set_bytes, set_option, split_times};
 use ruled_io::{
     Decoded, Encoding, Format, Log, Output, Pieces, Request, RowRules, Rows, Source, run,
 };
@@ -66,6 +66,7 @@ impl Case {
                 overflow: Overflow::Wrap(Breaking::BetweenWords),
             },
             is_omitting: false,
+            is_colored: false,
             is_raw: false,
             is_markdown: false,
         };
@@ -124,15 +125,19 @@ impl Case {
                 self.input.extend_from_slice(&self.above)?;
                 Ok(true)
             }
-            "=" => {
-                self.push_shown(text)?;
-                self.shown.push('\n')?;
-                Ok(true)
-            }
+            "=" => self.push_line(text),
+            "=␛" => self.push_line(&meant(alloc, text)?),
             "!" => self.set_told(text),
             ">*" | "=*" => self.push_times(mark, text),
             _ => Ok(false),
         }
+    }
+
+    // Appends a line that is shown.
+    fn push_line(&mut self, text: &str) -> Result<bool, AllocError> {
+        self.push_shown(text)?;
+        self.shown.push('\n')?;
+        Ok(true)
     }
 
     // Appends a text so many times, to the input or to what is shown.

@@ -14,8 +14,8 @@
 //! - `>` has a line of the input. What can't be seen is written by pictures: `␍` is a carriage return,
 //!   `␉` a tab, `␊` a line feed, `␛` an escape, `␀` a zero byte, `␂` a byte order mark and `⌧` a byte that is
 //!   no UTF-8; so is it in the name of a column or a table. Behind a line with `␃` at its end there is no line feed.
-//! - `=` has a line that is shown, with `␣` for a space at its end. `!` has the exit status and the line
-//!   that is printed; without it the status is 0, and there is no such line.
+//! - `=` has a line that is shown, with `␣` for a space at its end, and `=␛` one with pictures as in the input. `!` has the
+//!   exit status and the line that is printed; without it the status is 0, and there is no such line.
 //! - `>x` has bytes of the input, each as two hexadecimal digits, with spaces between some, and `*` and a number behind
 //!   those that are repeated so many times. `>^` has the input of the case above, and `>@` a place and its new bytes.
 //! - `>*` and `=*` have a number and a text that is repeated so many times, with no line feed after it.

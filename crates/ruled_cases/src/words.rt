@@ -182,6 +182,7 @@ fn set_value(request: &mut Request, name: &str, value: &str) -> Option<()> {
         "number" => view.is_numbered = true,
         "omit" => view.is_omitting = true,
         "count" => view.is_counting = true,
+        "color" => view.is_colored = true,
         "raw" => view.is_raw = true,
         "vertical" => view.vertical = vertical_of(value)?,
         "markdown" => {
@@ -260,8 +261,8 @@ fn meaning(c: char) -> char {
     }
 }
 
-// A text with its pictures as what they mean.
-fn meant(alloc: Global, text: &str) -> Result<String, AllocError> {
+/// A text with its pictures as what they mean.
+pub(crate) fn meant(alloc: Global, text: &str) -> Result<String, AllocError> {
     text.chars().map(meaning).collect(alloc)
 }
 

@@ -1,5 +1,6 @@
 -- What is shown of rows, and what their table looks like.
-use Rattle.std.specs.Prelude.{ℕ, ◌+◌, Bool, List, map, take, Option, Some, None, option_map, if◌then◌else◌, ◌==◌, ◌||◌, not, chars, codes}
+use Rattle.std.specs.Prelude.{ℕ, ◌+◌, Bool, List, map, take, Option, Some, None, option_map, if◌then◌else◌, ◌==◌, ◌&&◌, ◌||◌, ◌∷◌, not, chars, codes}
+use Rattle.pg_layout.specs.Colors.{Color}
 use Rattle.pg_layout.specs.Text.{Text}
 use Rattle.pg_layout.specs.declared.borders.HorizontalLine.{HorizontalLine}
 use Rattle.pg_layout.specs.declared.position.Entity.TheVariants.{Global}
@@ -72,6 +73,14 @@ look_config look =
 
 abbrev pub line_in : Options → Option (HorizontalLine ℕ)
 line_in options = if options.has_header then header_line_of options.look else None
+
+-- bold, as terminals have it: ESC [ 1 m, and ESC [ 22 m
+abbrev pub bold : Color
+bold = record { prefix = 27 ∷ codes "[1m"; suffix = 27 ∷ codes "[22m" }
+
+-- the colour of the texts of a header, if they have one
+abbrev pub header_color : Options → Option Color
+header_color options = if options.is_colored && options.has_header then Some bold else None
 
 -- each column at its side
 abbrev pub sided_config : Options → List (List Text) → Config

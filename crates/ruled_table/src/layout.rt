@@ -9,6 +9,7 @@ ghost use Rattle.ruled_table.specs.Plans.{is_in_blocks, leaves_columns_out, plan
 ghost use Rattle.ruled_table.specs.Shown.{shown_text};
 ghost use Rattle.ruled_table.specs.View.{excess_of};
 
+use crate::colors::HeaderColors;
 use crate::columns::places_of;
 use crate::fault::ViewFault;
 use crate::lent_rows::LentRows;
@@ -33,6 +34,7 @@ pub struct Layout {
     /// The line below the table, with its line feed: how many columns there are, and how many are
     /// shown. It is empty if all are.
     pub(crate) note: String,
+    pub(crate) colors: HeaderColors,
 }
 
 impl Model for Layout {
@@ -41,7 +43,7 @@ impl Model for Layout {
 
     ghost Value = { Measures };
 
-    ghost view = { λ l. record { places = l.places.items; config = l.config; widths = l.widths.0.items; note = string_bytes l.note } };
+    ghost view = { λ l. record { places = l.places.items; config = l.config; widths = l.widths.0.items; note = string_bytes l.note; header_color = l.colors } };
 
     ghost invariant = { λ l. l.config.spans ≡ [] };
 }
@@ -250,6 +252,7 @@ impl Layout {
             config,
             widths,
             note,
+            colors: HeaderColors::of(options),
         })
     }
 }

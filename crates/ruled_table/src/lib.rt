@@ -4,6 +4,7 @@
 mod arrangement;
 mod blocks;
 mod bounds;
+mod colors;
 mod columns;
 mod escapes;
 mod fault;

@@ -16,17 +16,18 @@ ghost use Rattle.ruled_table.specs.RowLines.{GrowsTo, HasNoRoomBelow, TellsRoom,
 ghost use Rattle.ruled_table.specs.declared.fault.ViewFault.{ViewFault};
 ghost use Rattle.ruled_table.specs.declared.fault.ViewFault.TheVariants.{Memory};
 
+use crate::colors::HeaderColors;
 use crate::fault::ViewFault;
 use crate::layout::Layout;
 use pg_fit::row_height;
-use pg_layout::{ConstantDimension, NoColors};
+use pg_layout::ConstantDimension;
 use pg_stream::SizedStream;
 use std::alloc::{AllocError, Global};
 use std::borrow::CowStr;
 use std::convert::AsStr;
 
 /// The printer of rows whose widths are known.
-pub(crate) type Sheet<'a> = SizedStream<'a, String, ConstantDimension, NoColors>;
+pub(crate) type Sheet<'a> = SizedStream<'a, String, ConstantDimension, HeaderColors>;
 
 /// The rows of a table, whose lines are appended to a buffer, one row after another, and then its end.
 ///
@@ -185,8 +186,9 @@ impl<'a> RowLines<'a> {
             config,
             widths,
             note,
+            colors,
         } = layout;
-        let sheet = SizedStream::new(alloc, config, widths, &NoColors, places.len())?;
+        let sheet = SizedStream::new(alloc, config, widths, colors, places.len())?;
         Ok(RowLines {
             alloc,
             sheet,

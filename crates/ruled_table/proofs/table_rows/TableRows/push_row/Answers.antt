@@ -19,7 +19,7 @@ use Rattle.ruled_table.proofs.table_rows.TableRows.push_row.Goals as goal
 pub returns-then-fill_plain-clause-lines : goal.returns-then-fill_plain-clause-lines
 returns-then-fill_plain-clause-lines c = λ options plan rows appended.
     let asked : Options = c.args.self.now.options.now in
-    let inside : Measures = record { places = c.layout.inside.places.items; config = c.layout.inside.config; widths = c.layout.inside.widths.0.items; note = string_bytes c.layout.inside.note } in
+    let inside : Measures = record { places = c.layout.inside.places.items; config = c.layout.inside.config; widths = c.layout.inside.widths.0.items; note = string_bytes c.layout.inside.note; header_color = c.layout.inside.colors } in
     let row : List Text = fields_of c.args.fields.now in
     let cells : List Text = map (λ (cell : Bor Text). cell.now) (take c.len.result c.fill_plain.new.cells) in
     let lent : c.deref.result.now ≡ inside.places = search rules in
@@ -32,7 +32,7 @@ returns-then-fill_plain-clause-lines c = λ options plan rows appended.
 pub returns-then-fill_plain-clause-after : goal.returns-then-fill_plain-clause-after
 returns-then-fill_plain-clause-after c = λ options plan rows appended.
     let asked : Options = c.args.self.now.options.now in
-    let inside : Measures = record { places = c.layout.inside.places.items; config = c.layout.inside.config; widths = c.layout.inside.widths.0.items; note = string_bytes c.layout.inside.note } in
+    let inside : Measures = record { places = c.layout.inside.places.items; config = c.layout.inside.config; widths = c.layout.inside.widths.0.items; note = string_bytes c.layout.inside.note; header_color = c.layout.inside.colors } in
     let row : List Text = fields_of c.args.fields.now in
     let cells : List Text = map (λ (cell : Bor Text). cell.now) (take c.len.result c.fill_plain.new.cells) in
     let lent : c.deref.result.now ≡ inside.places = search rules in
@@ -46,7 +46,7 @@ returns-then-fill_plain-clause-after c = λ options plan rows appended.
 pub returns-then-fill_plain-clause-room : goal.returns-then-fill_plain-clause-room
 returns-then-fill_plain-clause-room c = λ options plan rows appended.
     let asked : Options = c.args.self.now.options.now in
-    let inside : Measures = record { places = c.layout.inside.places.items; config = c.layout.inside.config; widths = c.layout.inside.widths.0.items; note = string_bytes c.layout.inside.note } in
+    let inside : Measures = record { places = c.layout.inside.places.items; config = c.layout.inside.config; widths = c.layout.inside.widths.0.items; note = string_bytes c.layout.inside.note; header_color = c.layout.inside.colors } in
     let row : List Text = fields_of c.args.fields.now in
     let cells : List Text = map (λ (cell : Bor Text). cell.now) (take c.len.result c.fill_plain.new.cells) in
     let lent : c.deref.result.now ≡ inside.places = search rules in
@@ -58,7 +58,7 @@ returns-then-fill_plain-clause-room c = λ options plan rows appended.
 pub returns-clause-lines : goal.returns-clause-lines
 returns-clause-lines c = λ options plan rows appended.
     let asked : Options = c.args.self.now.options.now in
-    let inside : Measures = record { places = c.layout.inside.places.items; config = c.layout.inside.config; widths = c.layout.inside.widths.0.items; note = string_bytes c.layout.inside.note } in
+    let inside : Measures = record { places = c.layout.inside.places.items; config = c.layout.inside.config; widths = c.layout.inside.widths.0.items; note = string_bytes c.layout.inside.note; header_color = c.layout.inside.colors } in
     let row : List Text = fields_of c.args.fields.now in
     let cells : List Text = map cow_str_bytes c.in_ok-cells.cells.items in
     let lent : c.deref-2.result.now ≡ inside.places = search rules in
@@ -70,7 +70,7 @@ returns-clause-lines c = λ options plan rows appended.
 pub returns-clause-after : goal.returns-clause-after
 returns-clause-after c = λ options plan rows appended.
     let asked : Options = c.args.self.now.options.now in
-    let inside : Measures = record { places = c.layout.inside.places.items; config = c.layout.inside.config; widths = c.layout.inside.widths.0.items; note = string_bytes c.layout.inside.note } in
+    let inside : Measures = record { places = c.layout.inside.places.items; config = c.layout.inside.config; widths = c.layout.inside.widths.0.items; note = string_bytes c.layout.inside.note; header_color = c.layout.inside.colors } in
     let row : List Text = fields_of c.args.fields.now in
     let cells : List Text = map cow_str_bytes c.in_ok-cells.cells.items in
     let lent : c.deref-2.result.now ≡ inside.places = search rules in
@@ -83,7 +83,7 @@ returns-clause-after c = λ options plan rows appended.
 pub returns-clause-room : goal.returns-clause-room
 returns-clause-room c = λ options plan rows appended.
     let asked : Options = c.args.self.now.options.now in
-    let inside : Measures = record { places = c.layout.inside.places.items; config = c.layout.inside.config; widths = c.layout.inside.widths.0.items; note = string_bytes c.layout.inside.note } in
+    let inside : Measures = record { places = c.layout.inside.places.items; config = c.layout.inside.config; widths = c.layout.inside.widths.0.items; note = string_bytes c.layout.inside.note; header_color = c.layout.inside.colors } in
     let row : List Text = fields_of c.args.fields.now in
     let cells : List Text = map cow_str_bytes c.in_ok-cells.cells.items in
     let lent : c.deref-2.result.now ≡ inside.places = search rules in
