@@ -296,6 +296,12 @@ const CHOICES: [Choice; 36] = [
         value: "WHEN",
         takes: Takes::Color,
         help: "Print the header in bold; by default (auto) if the output is a terminal, unless NO_COLOR is set or TERM is dumb",
+    },
+    Choice {
+        name: "null",
+        value: "TEXT",
+        takes: Takes::Text,
+        help: "Print this text for null in JSON and NULL in databases, and count it as blank like --missing",
         ..FLAG
     },
     Choice {
@@ -494,6 +500,15 @@ fn columns_of(alloc: Global, found: &ArgMatches) -> Result<Vec<String>, AllocErr
     Ok(words)
 }
 
+// The texts that count as blank: those that are listed, and that for null.
+fn missing_of(alloc: Global, found: &ArgMatches) -> Result<Vec<String>, AllocError> {
+    let mut texts = names_of(alloc, found.get_str("missing"), ',')?;
+    if let Some(null) = found.get_str("null") {
+        texts.push(String::from_str(alloc, null)?)?;
+    }
+    Ok(texts)
+}
+
 // The column that sorts rows, behind which `:desc` means that the greatest comes first.
 fn sort_of(alloc: Global, word: Option<&str>) -> Result<Option<Sort>, AllocError> {
     let Some(word) = word else {
@@ -601,7 +616,7 @@ fn view_of(
         has_header: !found.get_flag("no-header"),
         columns: columns_of(alloc, found)?,
         sides: sides_of(alloc, found.get_strs("align"))?,
-        missing: names_of(alloc, found.get_str("missing"), ',')?,
+        missing: missing_of(alloc, found)?,
         names: names_of(alloc, found.get_str("names"), ',')?,
         sort: sort_of(alloc, found.get_str("sort"))?,
         is_numbered: found.get_flag("number"),
@@ -721,8 +736,8 @@ fn tell_of(rt: &HostRuntime, words: &[String]) -> io::Result<u8> {
 }
 
 // What the input is, and what its table looks like, or why they can't be.
-fn input_and_look(found: &ArgMatches) -> Result<(Source, Look), &'static str> {
-    let source = source_asked(found)?;
+fn input_and_look(alloc: Global, found: &ArgMatches) -> Result<(Source, Look), &'static str> {
+    let source = source_asked(alloc, found)?;
     if let Some(told) = unstreamed(found, &source) {
         return Err(told);
     }
@@ -732,7 +747,7 @@ fn input_and_look(found: &ArgMatches) -> Result<(Source, Look), &'static str> {
 // What the arguments ask for that clap has read.
 fn asked_of(rt: &HostRuntime, found: &ArgMatches) -> io::Result<Asked> {
     let screen = screen_of(rt)?;
-    match input_and_look(found) {
+    match input_and_look(rt.alloc(), found) {
         Ok((source, look)) => {
             let wanted = table_of(rt.alloc(), found, source, look, screen)?;
             Ok(Asked::Table(wanted))

@@ -31,7 +31,7 @@ fn words_of(error: &io::Error) -> &'static str {
 // Whether an input may be a database.
 fn may_be_database(source: &Source) -> bool {
     match source {
-        Source::Rows(_) | Source::Member(_) | Source::Values { .. } => false,
+        Source::Rows(_) | Source::Members { .. } | Source::Values { .. } => false,
         Source::Database {
             selection: Selection::Query(query),
             ..

@@ -1,7 +1,7 @@
 //! The source that the arguments name: which file, in which format, and what is read of it.
 
 use clap::ArgMatches;
-use ruled_io::{Fields, Format, Kind, Known, Log, Query, RowRules, Selection, Source};
+use ruled_io::{Fields, Format, Kind, Known, Log, MemberRules, Query, RowRules, Selection, Source};
 use ruled_table::Options;
 use std::alloc::{AllocError, Global};
 use std::mem;
@@ -83,6 +83,7 @@ fn database(selection: Selection) -> Source {
 // What the input is, but for what is asked of a database: by what is asked for, by the file's name, or by its first
 // bytes.
 fn source_without_selection(
+    alloc: Global,
     found: &ArgMatches,
     asked: Option<Kind>,
 ) -> Result<Source, &'static str> {
@@ -95,6 +96,7 @@ fn source_without_selection(
         None => source_in_name(found).unwrap_or(Source::Seen {
             log: Log::Unknown,
             rules: RowRules::PLAIN,
+            members: MemberRules::new(alloc),
         }),
     })
 }
@@ -163,7 +165,7 @@ fn separated(source: Source) -> Result<Source, &'static str> {
     match source {
         Source::Seen { rules, .. } => Ok(Source::Values { rules }),
         Source::Values { .. } | Source::Rows(Format::Separated(_)) => Ok(source),
-        Source::Rows(_) | Source::Member(_) | Source::Database { .. } => {
+        Source::Rows(_) | Source::Members { .. } | Source::Database { .. } => {
             Err("--skip, --comment, --quote and --names need separated values")
         }
     }
@@ -178,9 +180,9 @@ fn one_value(source: Source) -> Result<Source, &'static str> {
 }
 
 /// What the input is, but for the words of a query, a table or a path, or why it can't be.
-pub(crate) fn source_asked(found: &ArgMatches) -> Result<Source, &'static str> {
+pub(crate) fn source_asked(alloc: Global, found: &ArgMatches) -> Result<Source, &'static str> {
     let asked = kind_asked(found)?;
-    let mut source = source_without_selection(found, asked)?;
+    let mut source = source_without_selection(alloc, found, asked)?;
     if is_of_table(found, asked)? {
         source = database(Selection::Tables);
     }
@@ -229,24 +231,44 @@ fn table_named(file: Option<&str>) -> &str {
     }
 }
 
-// A query of what is known so of its rows, of JSON at this path. Names above rows are those of the columns that it reads.
+// A query of what is known so of its rows, of JSON at this path. NULL has this text. Names above rows are those of the columns that it reads.
 fn query_of(
     alloc: Global,
     found: &ArgMatches,
     text: String,
     known: Option<Known>,
     path: Vec<String>,
+    null: String,
     view: &mut Options,
 ) -> Result<Query, AllocError> {
     Ok(Query {
         text,
         known,
-        path,
+        members: MemberRules {
+            path,
+            null: String::new(alloc),
+        },
         table: String::from_str(alloc, table_named(name_in(found)))?,
         names: mem::replace(&mut view.names, Vec::new(alloc)),
         is_padded: mem::replace(&mut view.is_padded, false),
         steps: u64::from(found.get_one::<u32>("limit-steps").unwrap_or(STEPS)),
+        null,
     })
+}
+
+// The source, with rules for its members if it is JSON.
+fn with_members(source: Source, members: MemberRules) -> Source {
+    match source {
+        Source::Rows(format @ (Format::Json | Format::JsonLines)) => {
+            Source::Members { format, members }
+        }
+        Source::Seen { log, rules, .. } => Source::Seen {
+            log,
+            rules,
+            members,
+        },
+        _ => source,
+    }
 }
 
 /// The source, with what is asked of it. The rows are those of the member at this path, if it has names.
@@ -257,13 +279,13 @@ pub(crate) fn selected(
     path: Vec<String>,
     view: &mut Options,
 ) -> Result<Source, AllocError> {
+    let null = String::from_str(alloc, found.get_str("null").unwrap_or(""))?;
     if let Some(text) = copy_of(alloc, found.get_str("query"))? {
-        let query = query_of(alloc, found, text, source.known_rows(), path, view)?;
+        let query = query_of(alloc, found, text, source.known_rows(), path, null, view)?;
         return Ok(database(Selection::Query(query)));
     }
     match copy_of(alloc, found.get_str("table"))? {
-        Some(name) => Ok(database(Selection::Table(name))),
-        None if path.is_empty() => Ok(source),
-        None => Ok(Source::Member(path)),
+        Some(name) => Ok(database(Selection::Table { name, null })),
+        None => Ok(with_members(source, MemberRules { path, null })),
     }
 }

@@ -2,19 +2,21 @@
 
 use pg_layout::AlignmentHorizontal;
 use ruled_io::{
-    Fields, Format, Kind, Known, Log, Query, Request, RowRules, Rows, Selection, Source,
+    Fields, Format, Kind, Known, Log, MemberRules, Query, Request, RowRules, Rows, Selection,
+    Source,
 };
 use ruled_table::{Look, Options, Overflow, Sort, Vertical};
 use std::alloc::{AllocError, Global};
 use std::mem;
 
 // The source that a word names: that of a format, or the one that the input shows.
-fn source_of(word: &str) -> Option<Source> {
+fn source_of(alloc: Global, word: &str) -> Option<Source> {
     match word {
         "seen" => {
             return Some(Source::Seen {
                 log: Log::Empty,
                 rules: RowRules::PLAIN,
+                members: MemberRules::new(alloc),
             });
         }
         "values" => {
@@ -67,11 +69,12 @@ fn query_of(alloc: Global, text: String, known: Option<Known>) -> Result<Query, 
     Ok(Query {
         text,
         known,
-        path: Vec::new(alloc),
+        members: MemberRules::new(alloc),
         table: "shop".to_string(alloc)?,
         names: Vec::new(alloc),
         is_padded: false,
         steps: 1_000_000,
+        null: String::new(alloc),
     })
 }
 
@@ -81,8 +84,8 @@ fn select(alloc: Global, request: &mut Request, value: &str) -> Result<(), Alloc
     let mut query = query_of(alloc, text, request.source.known_rows())?;
     query.names = mem::replace(&mut request.view.names, Vec::new(alloc));
     query.is_padded = mem::replace(&mut request.view.is_padded, false);
-    if let Source::Member(path) = &mut request.source {
-        query.path = mem::replace(path, Vec::new(alloc));
+    if let Source::Members { members, .. } = &mut request.source {
+        query.members = mem::replace(members, MemberRules::new(alloc));
     }
     request.source = Source::Database {
         selection: Selection::Query(query),
@@ -99,13 +102,16 @@ fn source_set(
     value: &str,
 ) -> Result<Option<Source>, AllocError> {
     let selection = match name {
-        "format" => return Ok(source_of(value)),
+        "format" => return Ok(source_of(alloc, value)),
         "delimiter" => {
             let format = Format::separated(delimiter_of(value), RowRules::PLAIN);
             return Ok(Some(Source::Rows(format)));
         }
         "query" => Selection::Query(query_of(alloc, value.to_string(alloc)?, None)?),
-        "table" => Selection::Table(meant(alloc, value)?),
+        "table" => Selection::Table {
+            name: meant(alloc, value)?,
+            null: String::new(alloc),
+        },
         _ => return Ok(None),
     };
     Ok(Some(Source::Database { selection, log }))
@@ -203,11 +209,41 @@ fn set_value(request: &mut Request, name: &str, value: &str) -> Option<()> {
 // Adds a name to the path of the member of JSON that has the rows.
 fn push_name(alloc: Global, source: &mut Source, name: String) -> Result<(), AllocError> {
     match source {
-        Source::Member(path) => Ok(path.push(name)?),
+        Source::Members { members, .. } => Ok(members.path.push(name)?),
         _ => {
-            *source = Source::Member(vec![in alloc; name]?);
+            *source = Source::Members {
+                format: Format::Json,
+                members: MemberRules {
+                    path: vec![in alloc; name]?,
+                    null: String::new(alloc),
+                },
+            };
             Ok(())
         }
+    }
+}
+
+// Sets the text for null in JSON, or for NULL in what is asked of a database.
+fn set_null(alloc: Global, source: &mut Source, text: String) {
+    match source {
+        Source::Rows(format) => {
+            let mut members = MemberRules::new(alloc);
+            members.null = text;
+            *source = Source::Members {
+                format: *format,
+                members,
+            };
+        }
+        Source::Members { members, .. } | Source::Seen { members, .. } => members.null = text,
+        Source::Database {
+            selection: Selection::Query(query),
+            ..
+        } => query.null = text,
+        Source::Database {
+            selection: Selection::Table { null, .. },
+            ..
+        } => *null = text,
+        _ => {}
     }
 }
 
@@ -230,6 +266,10 @@ pub(crate) fn set_option(
     }
     if name == "at" {
         push_name(alloc, &mut request.source, meant(alloc, value)?)?;
+        return Ok(true);
+    }
+    if name == "null" {
+        set_null(alloc, &mut request.source, meant(alloc, value)?);
         return Ok(true);
     }
     if let Some(source) = source_set(alloc, request.source.log(), name, value)? {

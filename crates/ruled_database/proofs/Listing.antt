@@ -2,9 +2,8 @@
 use Rattle.std.proofs.Common.{◌≡◌, ℕ, List, Some, Result, Ok, Err, inl, inr, refl, sym, subst, ◌∷◌}
 use Rattle.std.specs.Prelude.{IfErr}
 use Rattle.std.specs.Result.{IsErrAnd}
-use Rattle.ruled_database.specs.Definitions.{definition_of}
 use Rattle.ruled_database.specs.Values.{LacksTexts}
-use Rattle.ruled_database.specs.Listings.{Entry, HasWrongEntry, IsListed, IsWrongEntry, LacksDefinition, LacksEntries, LacksEntry, LacksListing, LacksRows, LacksSchema, LacksTable, entry_in, fields_of_entry}
+use Rattle.ruled_database.specs.Listings.{Entry, HasWrongEntry, IsListed, IsWrongEntry, LacksDefinition, LacksEntries, LacksEntry, LacksListing, LacksRows, LacksSchema, LacksTable, definition_with, entry_in, fields_of_entry}
 use Rattle.ruled_database.specs.Tables.{AddsRows, names_in}
 use Rattle.ruled_database.specs.declared.definition.Definition.{Definition}
 use Rattle.ruled_database.specs.declared.fault.DatabaseFault.{DatabaseFault}
@@ -39,8 +38,8 @@ pub lacks_names : {V : Type 0} (file : List ℕ) (root : ℕ) (definition : Defi
 lacks_names file root definition (Ok x) found told lacks = absurd told
 lacks_names file root definition (Err fault) found told lacks = lacks_named file root definition fault (subst (LacksTexts (names_in definition.columns)) (sym told) lacks)
 
-module _ (file : List ℕ) (entry : Entry) where
-  lacks_definition : (fault : DatabaseFault) → LacksDefinition entry fault → LacksEntry file entry fault
+module _ (file null_text : List ℕ) (entry : Entry) where
+  lacks_definition : (fault : DatabaseFault) → LacksDefinition entry fault → LacksEntry file null_text entry fault
   lacks_definition Database lacks = absurd lacks
   lacks_definition Encoding lacks = absurd lacks
   lacks_definition (Schema fault) lacks = absurd lacks
@@ -48,33 +47,33 @@ module _ (file : List ℕ) (entry : Entry) where
   lacks_definition Elsewhere lacks = lacks
   lacks_definition Keyed lacks = lacks
   lacks_definition Computed lacks = lacks
-  lacks_definition (Table fault) lacks = subst (λ (f : TableFault). LacksEntry file entry (Table f)) (sym lacks) tt
+  lacks_definition (Table fault) lacks = subst (λ (f : TableFault). LacksEntry file null_text entry (Table f)) (sym lacks) tt
 
   pub lacks_by_definition : {V : Type 0} (result : Result V DatabaseFault) (found : DatabaseFault) → IsErrAnd result (λ fault. fault ≡ found) → LacksDefinition entry found
-      → IfErr result (LacksEntry file entry)
+      → IfErr result (LacksEntry file null_text entry)
   lacks_by_definition (Ok x) found told lacks = absurd told
   lacks_by_definition (Err fault) found told lacks = lacks_definition fault (subst (LacksDefinition entry) (sym told) lacks)
 
   pub lacks_by_rows : {V : Type 0} (result : Result V DatabaseFault) (found : TableFault) (definition : Definition) → IsErrAnd result (λ fault. fault ≡ Table found)
-      → definition ≡ definition_of entry.statement → LacksRows file entry.root definition found → IfErr result (LacksEntry file entry)
+      → definition ≡ definition_with null_text entry.statement → LacksRows file entry.root definition found → IfErr result (LacksEntry file null_text entry)
   lacks_by_rows (Ok x) found definition told is lacks = absurd told
   lacks_by_rows (Err fault) found definition told is lacks =
-      subst (LacksEntry file entry) (sym told) (subst (λ (it : Definition). LacksRows file entry.root it found) is lacks)
+      subst (LacksEntry file null_text entry) (sym told) (subst (λ (it : Definition). LacksRows file entry.root it found) is lacks)
 
 -- a table that is listed and has no rows to show
-pub lacks_listed : {V : Type 0} (file name : List ℕ) (entry : Entry) (result : Result V DatabaseFault) → IsListed file name entry → IfErr result (LacksEntry file entry) → IfErr result (LacksTable file name)
-lacks_listed file name entry (Ok x) listed lacks = tt
-lacks_listed file name entry (Err Database) listed lacks = absurd lacks
-lacks_listed file name entry (Err Encoding) listed lacks = absurd lacks
-lacks_listed file name entry (Err (Schema fault)) listed lacks = absurd lacks
-lacks_listed file name entry (Err Absent) listed lacks = absurd lacks
-lacks_listed file name entry (Err Elsewhere) listed lacks = (entry, listed, lacks)
-lacks_listed file name entry (Err Keyed) listed lacks = (entry, listed, lacks)
-lacks_listed file name entry (Err Computed) listed lacks = (entry, listed, lacks)
-lacks_listed file name entry (Err (Table row.Damage)) listed lacks = (entry, listed, lacks)
-lacks_listed file name entry (Err (Table row.Default)) listed lacks = (entry, listed, lacks)
-lacks_listed file name entry (Err (Table (row.Encoding at))) listed lacks = (entry, listed, lacks)
-lacks_listed file name entry (Err (Table row.Memory)) listed lacks = tt
+pub lacks_listed : {V : Type 0} (file name null_text : List ℕ) (entry : Entry) (result : Result V DatabaseFault) → IsListed file name entry → IfErr result (LacksEntry file null_text entry) → IfErr result (LacksTable file name null_text)
+lacks_listed file name null_text entry (Ok x) listed lacks = tt
+lacks_listed file name null_text entry (Err Database) listed lacks = absurd lacks
+lacks_listed file name null_text entry (Err Encoding) listed lacks = absurd lacks
+lacks_listed file name null_text entry (Err (Schema fault)) listed lacks = absurd lacks
+lacks_listed file name null_text entry (Err Absent) listed lacks = absurd lacks
+lacks_listed file name null_text entry (Err Elsewhere) listed lacks = (entry, listed, lacks)
+lacks_listed file name null_text entry (Err Keyed) listed lacks = (entry, listed, lacks)
+lacks_listed file name null_text entry (Err Computed) listed lacks = (entry, listed, lacks)
+lacks_listed file name null_text entry (Err (Table row.Damage)) listed lacks = (entry, listed, lacks)
+lacks_listed file name null_text entry (Err (Table row.Default)) listed lacks = (entry, listed, lacks)
+lacks_listed file name null_text entry (Err (Table (row.Encoding at))) listed lacks = (entry, listed, lacks)
+lacks_listed file name null_text entry (Err (Table row.Memory)) listed lacks = tt
 
 -- ---- the list of all
 

@@ -248,7 +248,7 @@ has_option word (create ∷ (table ∷ (name ∷ rest))) = says_any word rest
 -- a table without columns as yet, whose records begin with these
 abbrev pub begun : Bool → Tree → List (List ℕ) → Definition
 begun strict tree first =
-    record { strict = strict; columns = []; defaults = map (λ name. Null) first; least = length first; computed = false; tree = tree; known = true }
+    record { strict = strict; columns = []; defaults = map (λ name. Null) first; least = length first; computed = false; tree = tree; known = true; null = [] }
 
 -- there is a key, and a record has a value for each column and no other one
 abbrev pub with_known : List (List ℕ) → Definition → Definition

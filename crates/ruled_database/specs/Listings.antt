@@ -86,10 +86,17 @@ pub record IsListed (file name : List ℕ) (entry : Entry) : Type 0 where
 
 -- ---- a table
 
+-- what a statement declares, with this text for NULL
+abbrev pub with_null : Text → Definition → Definition
+with_null null_text it = record it { null = null_text }
+
+abbrev pub definition_with : Text → Text → Definition
+definition_with null_text statement = with_null null_text (definition_of statement)
+
 -- a table whose rows are stored in full, in a known order of their values
-pub record IsStored (entry : Entry) (definition : Definition) : Type 0 where
+pub record IsStored (null_text : Text) (entry : Entry) (definition : Definition) : Type 0 where
   pub kind : entry.kind ≡ kind.Table
-  pub declared : definition ≡ definition_of entry.statement
+  pub declared : definition ≡ definition_with null_text entry.statement
   pub known : definition.known ≡ true
   pub whole : definition.computed ≡ false
 
@@ -98,17 +105,17 @@ abbrev pub AreNamedRows : List ℕ → ℕ → Definition → List (List Text) �
 AreNamedRows file root definition rows = (shown : List (List Text)) × AreRows file root definition shown × (rows ≡ names_in definition.columns ∷ shown)
 
 -- the rows of an entry
-pub record AreEntryRows (file : List ℕ) (entry : Entry) (rows : List (List Text)) : Type 0 where
+pub record AreEntryRows (file : List ℕ) (null_text : Text) (entry : Entry) (rows : List (List Text)) : Type 0 where
   pub definition : Definition
-  pub stored : IsStored entry definition
+  pub stored : IsStored null_text entry definition
   pub shown : AreNamedRows file entry.root definition rows
 
 -- the rows of the table of a name
-pub record AreTable (file name : List ℕ) (rows : List (List Text)) : Type 0 where
+pub record AreTable (file name : List ℕ) (null_text : Text) (rows : List (List Text)) : Type 0 where
   pub read : IsRead file
   pub entry : Entry
   pub listed : IsListed file name entry
-  pub shown : AreEntryRows file entry rows
+  pub shown : AreEntryRows file null_text entry rows
 
 -- ---- the list of all
 
@@ -213,32 +220,32 @@ LacksDefinition entry Computed = (definition_of entry.statement).computed ≡ tr
 LacksDefinition entry (Table fault) = fault ≡ row.Memory
 
 -- why an entry has no rows to show
-abbrev pub LacksEntry : List ℕ → Entry → DatabaseFault → Type 0
-LacksEntry file entry Database = ⊥
-LacksEntry file entry Encoding = ⊥
-LacksEntry file entry (Schema fault) = ⊥
-LacksEntry file entry Absent = ⊥
-LacksEntry file entry Elsewhere = entry.kind ≢ kind.Table
-LacksEntry file entry Keyed = (definition_of entry.statement).known ≡ false
-LacksEntry file entry Computed = (definition_of entry.statement).computed ≡ true
-LacksEntry file entry (Table fault) = LacksRows file entry.root (definition_of entry.statement) fault
+abbrev pub LacksEntry : List ℕ → Text → Entry → DatabaseFault → Type 0
+LacksEntry file null_text entry Database = ⊥
+LacksEntry file null_text entry Encoding = ⊥
+LacksEntry file null_text entry (Schema fault) = ⊥
+LacksEntry file null_text entry Absent = ⊥
+LacksEntry file null_text entry Elsewhere = entry.kind ≢ kind.Table
+LacksEntry file null_text entry Keyed = (definition_of entry.statement).known ≡ false
+LacksEntry file null_text entry Computed = (definition_of entry.statement).computed ≡ true
+LacksEntry file null_text entry (Table fault) = LacksRows file entry.root (definition_with null_text entry.statement) fault
 
-abbrev pub LacksListed : List ℕ → List ℕ → DatabaseFault → Type 0
-LacksListed file name fault = (entry : Entry) × IsListed file name entry × LacksEntry file entry fault
+abbrev pub LacksListed : List ℕ → List ℕ → Text → DatabaseFault → Type 0
+LacksListed file name null_text fault = (entry : Entry) × IsListed file name entry × LacksEntry file null_text entry fault
 
 -- why the rows of a table aren't shown
-abbrev pub LacksTable : List ℕ → List ℕ → DatabaseFault → Type 0
-LacksTable file name Database = has_header file ≡ false
-LacksTable file name Encoding = has_encoding file ≡ false
-LacksTable file name (Schema fault) = LacksRows file 1 schema_definition fault
-LacksTable file name Absent = (rows : List (List Text)) × AreListed file rows × (find name rows ≡ None)
-LacksTable file name Elsewhere = LacksListed file name Elsewhere
-LacksTable file name Keyed = LacksListed file name Keyed
-LacksTable file name Computed = LacksListed file name Computed
-LacksTable file name (Table row.Damage) = LacksListed file name (Table row.Damage)
-LacksTable file name (Table row.Default) = LacksListed file name (Table row.Default)
-LacksTable file name (Table (row.Encoding at)) = LacksListed file name (Table (row.Encoding at))
-LacksTable file name (Table row.Memory) = ⊤
+abbrev pub LacksTable : List ℕ → List ℕ → Text → DatabaseFault → Type 0
+LacksTable file name null_text Database = has_header file ≡ false
+LacksTable file name null_text Encoding = has_encoding file ≡ false
+LacksTable file name null_text (Schema fault) = LacksRows file 1 schema_definition fault
+LacksTable file name null_text Absent = (rows : List (List Text)) × AreListed file rows × (find name rows ≡ None)
+LacksTable file name null_text Elsewhere = LacksListed file name null_text Elsewhere
+LacksTable file name null_text Keyed = LacksListed file name null_text Keyed
+LacksTable file name null_text Computed = LacksListed file name null_text Computed
+LacksTable file name null_text (Table row.Damage) = LacksListed file name null_text (Table row.Damage)
+LacksTable file name null_text (Table row.Default) = LacksListed file name null_text (Table row.Default)
+LacksTable file name null_text (Table (row.Encoding at)) = LacksListed file name null_text (Table (row.Encoding at))
+LacksTable file name null_text (Table row.Memory) = ⊤
 
 abbrev pub LacksListing : List ℕ → DatabaseFault → Type 0
 LacksListing file Database = has_header file ≡ false

@@ -43,7 +43,7 @@ module _ (definition : Definition) where
   value_in key values it = value_by it.shown key values it.place
 
   abbrev pub texts_in : ℕ → Row → List (List ℕ)
-  texts_in key values = map (λ it. shown_text (value_in key values it)) definition.columns
+  texts_in key values = map (λ it. shown_text definition.null (value_in key values it)) definition.columns
 
   -- the row, where no column lacks its value
   abbrev pub row_in : ℕ → Row → Option (List (List (List ℕ)))

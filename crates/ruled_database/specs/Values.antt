@@ -46,13 +46,13 @@ in_utf8 Utf16High values = map (value_of true) values
 
 -- ---- values as texts
 
--- nothing for NULL, numbers as SQLite writes them, and bytes that are no text as a literal of SQL
-abbrev pub shown_text : Value → List ℕ
-shown_text Null = []
-shown_text (Int n) = signed_decimal n
-shown_text (Real x) = spelled x
-shown_text (Text bytes) = bytes
-shown_text (Blob bytes) = codes "x'" ++ (encode_lower bytes ++ codes "'")
+-- this one for NULL, numbers as SQLite writes them, and bytes that are no text as a literal of SQL
+abbrev pub shown_text : List ℕ → Value → List ℕ
+shown_text null_text Null = null_text
+shown_text null_text (Int n) = signed_decimal n
+shown_text null_text (Real x) = spelled x
+shown_text null_text (Text bytes) = bytes
+shown_text null_text (Blob bytes) = codes "x'" ++ (encode_lower bytes ++ codes "'")
 
 -- ---- why texts are no row to show
 

@@ -49,6 +49,8 @@ pub(crate) struct Definition {
     pub(crate) tree: Tree,
     /// Whether the columns of that key are known.
     pub(crate) known: bool,
+    /// The text that is shown for NULL.
+    pub(crate) null: Items<u8>,
 }
 
 /// What the type of a column says of its values.
@@ -461,6 +463,7 @@ impl Definition {
             computed: false,
             tree,
             known: true,
+            null: Items::new(alloc),
         })
     }
 

@@ -12,6 +12,7 @@ use crate::file::File;
 use crate::table::{names_of, push_rows};
 use crate::value::row_of;
 use csv::{ByteRecord, StringRecord};
+use sqlite_items::Items;
 use sqlite_sql::numeral::int_at_front;
 use std::alloc::{AllocError, Global};
 
@@ -122,21 +123,26 @@ fn schema_rows(alloc: Global, file: File<'_>) -> Result<Vec<StringRecord>, Datab
     }
 }
 
-// What the statement of a table declares, where its rows are read.
-fn stored_definition(alloc: Global, listed: Listed<'_>) -> Result<Definition, DatabaseFault>
-    ensures value { IfOk result (λ it. spec.IsStored (entry_of listed.entry) it) }
+// What the statement of a table declares, where its rows are read, with this text for NULL.
+fn stored_definition(
+    alloc: Global,
+    null: &str,
+    listed: Listed<'_>,
+) -> Result<Definition, DatabaseFault>
+    ensures value { IfOk result (λ it. spec.IsStored null.now (entry_of listed.entry) it) }
     ensures fault { IfErr result (spec.LacksDefinition (entry_of listed.entry)) }
 {
     if !matches!(listed.kind, ItemKind::Table) {
         return Err(DatabaseFault::Elsewhere);
     }
-    let definition = definition_of(alloc, listed.statement.as_bytes())?;
+    let mut definition = definition_of(alloc, listed.statement.as_bytes())?;
     if !definition.known {
         return Err(DatabaseFault::Keyed);
     }
     if definition.computed {
         return Err(DatabaseFault::Computed);
     }
+    definition.null = Items::from_slice(alloc, null.as_bytes())?;
     Ok(definition)
 }
 
@@ -172,37 +178,39 @@ fn file_of(bytes: &[u8]) -> Result<File<'_>, DatabaseFault>
     }
 }
 
-// The rows of an entry of the schema.
+// The rows of an entry of the schema, with this text for NULL.
 #[tactic(auto, using(crate::proofs::Listing::lacks_by_definition, crate::proofs::Listing::lacks_by_rows))]
 fn entry_rows(
     alloc: Global,
     file: File<'_>,
+    null: &str,
     listed: Listed<'_>,
 ) -> Result<Vec<StringRecord>, DatabaseFault>
-    ensures rows { IfOk result (λ rows. AreEntryRows file.entry.bytes.now (entry_of listed.entry) (map fields_of rows.items)) }
-    ensures fault { IfErr result (LacksEntry file.entry.bytes.now (entry_of listed.entry)) }
+    ensures rows { IfOk result (λ rows. AreEntryRows file.entry.bytes.now null.now (entry_of listed.entry) (map fields_of rows.items)) }
+    ensures fault { IfErr result (LacksEntry file.entry.bytes.now null.now (entry_of listed.entry)) }
 {
-    let definition = stored_definition(alloc, listed)?;
+    let definition = stored_definition(alloc, null, listed)?;
     let rows = rows_of(alloc, file, listed.root, &definition)?;
     Ok(rows)
 }
 
 /// All rows of a table of the database that the bytes of its file hold, with the names of the columns as row 0.
 ///
-/// A value is shown as by [`crate::push_value`]. Of the schema's statements, only that of this table is read, and
+/// A value is shown as by [`crate::push_value`], NULL as `null`. Of the schema's statements, only that of this table is read, and
 /// of that only the columns.
 pub fn table_rows(
     alloc: Global,
     bytes: &[u8],
     name: &str,
+    null: &str,
 ) -> Result<Vec<StringRecord>, DatabaseFault>
-    ensures rows { IfOk result (λ rows. AreTable bytes.now name.now (map fields_of rows.items)) }
-    ensures fault { IfErr result (LacksTable bytes.now name.now) }
+    ensures rows { IfOk result (λ rows. AreTable bytes.now name.now null.now (map fields_of rows.items)) }
+    ensures fault { IfErr result (LacksTable bytes.now name.now null.now) }
 {
     let file = file_of(bytes)?;
     let schema = schema_rows(alloc, file)?;
     match find(&schema, name) {
-        Some(listed) => entry_rows(alloc, file, listed),
+        Some(listed) => entry_rows(alloc, file, null, listed),
         None => Err(DatabaseFault::Absent),
     }
 }

@@ -83,7 +83,7 @@ fn read_texts(
     texts.clear();
     for column in definition.columns.as_slice() {
         let value = value_of(definition, column, key, values);
-        push_value(alloc, texts, value)?;
+        push_value(alloc, texts, definition.null.as_slice(), value)?;
     }
     Ok(())
 }

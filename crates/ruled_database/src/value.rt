@@ -25,18 +25,19 @@ fn literal_of(alloc: Global, bytes: &[u8]) -> Result<String, AllocError>
     Ok(text)
 }
 
-/// Appends a value as a text: a text as it is, a number as SQLite writes it (`12`, `1.0`, `1.5e+20`), `NULL` as an empty
-/// text, and a blob as `x'00ff'`.
+/// Appends a value as a text: a text as it is, a number as SQLite writes it (`12`, `1.0`, `1.5e+20`), NULL as `null`, and
+/// a blob as `x'00ff'`.
 pub fn push_value(
     alloc: Global,
     texts: &mut ByteRecord,
+    null: &[u8],
     value: ValueRef<'_>,
 ) -> Result<(), AllocError>
-    ensures fields { OnOk result (fields_of texts.new ≡ fields_of texts.old ++ ((partial_of texts.old ++ shown_text (owned value.entry)) ∷ [])) }
+    ensures fields { OnOk result (fields_of texts.new ≡ fields_of texts.old ++ ((partial_of texts.old ++ shown_text null.now (owned value.entry)) ∷ [])) }
     ensures partial { OnOk result (partial_of texts.new ≡ []) }
 {
     match value {
-        ValueRef::Null => texts.push_field(b""),
+        ValueRef::Null => texts.push_field(null),
         ValueRef::Int(number) => texts.push_field(Buffer::new().format(number).as_bytes()),
         ValueRef::Real(number) => {
             let text = float_text(alloc, number)?;

@@ -5,9 +5,10 @@ use Rattle.std.specs.Option.{option_or}
 use Rattle.std.proofs.lemmas.Bool.Decides.{nat_tests}
 use Rattle.std.proofs.lemmas.List.{append-nil, take_all}
 use Rattle.pg_layout.specs.Text.{Text}
+use Rattle.ruled_json.specs.Rows.{Rules}
 use Rattle.ruled_csv.specs.Faults.{rows_fault}
 use Rattle.ruled_csv.proofs.SoundRows.{all-sound}
-use Rattle.ruled_json.specs.Streamed.{streamed_line_fault}
+use Rattle.ruled_json.specs.Streamed.{LineRules, streamed_line_fault}
 use Rattle.ruled_table.specs.Arranged.{arranged, chosen_rows, ends_of, even, leveled, named, numbered, sort_fault_by, sorted_by_word, tails}
 use Rattle.ruled_table.specs.Columns.{column_fault}
 use Rattle.ruled_table.specs.Layouts.{first_fault, layout_of, start_fault, whole_text}
@@ -20,9 +21,9 @@ use Rattle.ruled_io.specs.Formats.{content_of}
 use Rattle.ruled_io.specs.Input.{format_fault, input_fault, rows_in, rows_of}
 use Rattle.ruled_io.specs.Laws.{AllAreFirst, AtOnceShowsAsStreams, BothWaysFindOneFault, IsStreamable, ShowsEachRow, StreamsShowAsAtOnce}
 use Rattle.ruled_io.specs.Reading.{sound_rows, wrong_in}
-use Rattle.ruled_io.specs.Requests.{format_told, holds_database, path_of, rows_needed}
+use Rattle.ruled_io.specs.Requests.{format_told, holds_database, members_of, rows_needed}
 use Rattle.ruled_io.specs.Runs.{AreRows, AreRowsAs}
-use Rattle.ruled_io.specs.Stream.{first_count, first_plan, first_wrong, record_count, shown_text, streamed_count, streamed_fault, streamed_format, streamed_rows, streamed_wrong}
+use Rattle.ruled_io.specs.Stream.{first_count, first_plan, first_wrong, line_rules, shown_text, streamed_count, streamed_fault, streamed_format, streamed_rows, streamed_wrong}
 use Rattle.ruled_io.specs.declared.fault.InputFault.TheVariants.{Stream}
 use Rattle.ruled_io.specs.declared.fault.RunFault.{RunFault}
 use Rattle.ruled_io.specs.declared.fault.StreamedFault.TheVariants.{Database}
@@ -36,20 +37,20 @@ use Rattle.ruled_io.proofs.SameLines.{fine-at-once, rows-at-once, same-fault}
 -- ---- the rows of a format
 
 -- where nothing is wrong with a stream, its rows are those at once
-same-rows : (records : ℕ) (path : List Text) (bytes : List ℕ) (format : Format) → wrong_in format records bytes ≡ None
-    → (format_fault path format bytes ≡ None) × (sound_rows format records bytes ≡ rows_of path format bytes)
-same-rows records path bytes (Separated dialect) none = (none, all-sound dialect bytes (unmapped fault_of_rows (rows_fault dialect bytes) none))
-same-rows records path bytes Json none = absurd (cc)
-same-rows records path bytes JsonLines none =
+same-rows : (records : LineRules) (bytes : List ℕ) (format : Format) → wrong_in format records bytes ≡ None
+    → (format_fault records.members format bytes ≡ None) × (sound_rows format records bytes ≡ rows_of records.members format bytes)
+same-rows records bytes (Separated dialect) none = (none, all-sound dialect bytes (unmapped fault_of_rows (rows_fault dialect bytes) none))
+same-rows records bytes Json none = absurd (cc)
+same-rows records bytes JsonLines none =
     let fine : streamed_line_fault records bytes ≡ None = unmapped fault_of_json (streamed_line_fault records bytes) none in
     (ap (option_map fault_of_json) (fine-at-once records bytes fine), rows-at-once records bytes fine)
 
 -- where the first rows are all, the same is wrong
-same-wrong : (options : Options) (count : ℕ) (path : List Text) (bytes : List ℕ) (format : Format) → format ≢ Json → length (rows_of path format bytes) ≤ first_count options format count
-    → wrong_in format (record_count count) bytes ≡ format_fault path format bytes
-same-wrong options count path bytes (Separated dialect) lines few = refl
-same-wrong options count path bytes Json lines few = absurd (lines refl)
-same-wrong options count path bytes JsonLines lines few = ap (option_map fault_of_json) (same-fault (record_count count) bytes (omega arith))
+same-wrong : (options : Options) (count : ℕ) (members : Rules) (bytes : List ℕ) (format : Format) → format ≢ Json → length (rows_of members format bytes) ≤ first_count options format count
+    → wrong_in format (line_rules count members) bytes ≡ format_fault members format bytes
+same-wrong options count members bytes (Separated dialect) lines few = refl
+same-wrong options count members bytes Json lines few = absurd (lines refl)
+same-wrong options count members bytes JsonLines lines few = ap (option_map fault_of_json) (same-fault (line_rules count members) bytes (omega arith))
 
 -- ---- their table
 
@@ -117,8 +118,11 @@ module _ (request : Request) (count : ℕ) (bytes : List ℕ) (all : AllAreFirst
   abbrev known : Known
   known = format_told request.source
 
-  abbrev path : List Text
-  path = path_of request.source
+  abbrev members : Rules
+  members = members_of request.source
+
+  abbrev rules : LineRules
+  rules = line_rules count members
 
   abbrev format : Format
   format = streamed_format request count bytes
@@ -130,37 +134,37 @@ module _ (request : Request) (count : ℕ) (bytes : List ℕ) (all : AllAreFirst
   first = streamed_count request count bytes
 
   -- both ways read it in one format
-  format-fault : input_fault None path known bytes ≡ format_fault path format content
-  format-fault = ap (λ (f : Format). format_fault path f (content_of f bytes)) all.format
+  format-fault : input_fault None members known bytes ≡ format_fault members format content
+  format-fault = ap (λ (f : Format). format_fault members f (content_of f bytes)) all.format
 
-  format-rows : rows_in None path known bytes ≡ rows_of path format content
-  format-rows = ap (λ (f : Format). rows_of path f (content_of f bytes)) all.format
+  format-rows : rows_in None members known bytes ≡ rows_of members format content
+  format-rows = ap (λ (f : Format). rows_of members f (content_of f bytes)) all.format
 
-  held : (holds : Bool) → (if holds then Some (Stream Database) else wrong_in format (record_count count) content) ≡ None
-      → AreRowsAs None holds request.source bytes (if holds then [] else sound_rows format (record_count count) content)
-      × ((if holds then [] else sound_rows format (record_count count) content) ≡ rows_in None path known bytes)
+  held : (holds : Bool) → (if holds then Some (Stream Database) else wrong_in format rules content) ≡ None
+      → AreRowsAs None holds request.source bytes (if holds then [] else sound_rows format rules content)
+      × ((if holds then [] else sound_rows format rules content) ≡ rows_in None members known bytes)
   held true none = absurd (cc)
   held false none =
-      let (fine, same) = same-rows (record_count count) path content format none in
-      let these : sound_rows format (record_count count) content ≡ rows_in None path known bytes = same ∙ sym format-rows in
+      let (fine, same) = same-rows rules content format none in
+      let these : sound_rows format rules content ≡ rows_in None members known bytes = same ∙ sym format-rows in
       ((format-fault ∙ fine, these), these)
 
   rows-are : streamed_wrong request count bytes ≡ None
-      → AreRows None request.source bytes (streamed_rows request count bytes) × (streamed_rows request count bytes ≡ rows_in None path known bytes)
+      → AreRows None request.source bytes (streamed_rows request count bytes) × (streamed_rows request count bytes ≡ rows_in None members known bytes)
   unfolding streamed_rows streamed_wrong
   rows-are none = held (holds_database request.source bytes) none
 
-  few : (rows : List (List Text)) → rows ≡ rows_in None path known bytes → length rows ≤ first
+  few : (rows : List (List Text)) → rows ≡ rows_in None members known bytes → length rows ≤ first
   few rows are = subst (λ (n : ℕ). n ≤ first) (ap length (sym are)) all.rows
 
-  wrong-is : IsStreamable request count bytes → streamed_wrong request count bytes ≡ input_fault None path known bytes
+  wrong-is : IsStreamable request count bytes → streamed_wrong request count bytes ≡ input_fault None members known bytes
   unfolding streamed_wrong
   wrong-is (file, lines) =
-      ap (λ (holds : Bool). if holds then Some (Stream Database) else wrong_in format (record_count count) content) file
-      ∙ same-wrong request.view count path content format lines (few (rows_of path format content) (sym format-rows)) ∙ sym format-fault
+      ap (λ (holds : Bool). if holds then Some (Stream Database) else wrong_in format rules content) file
+      ∙ same-wrong request.view count members content format lines (few (rows_of members format content) (sym format-rows)) ∙ sym format-fault
 
   -- where nothing is wrong, the stream of these rows is what is shown
-  module _ (none : streamed_wrong request count bytes ≡ None) (rows : List (List Text)) (are : rows ≡ rows_in None path known bytes) where
+  module _ (none : streamed_wrong request count bytes ≡ None) (rows : List (List Text)) (are : rows ≡ rows_in None members known bytes) where
     same : streamed_rows request count bytes ≡ rows
     same = (rows-are none).1 ∙ sym are
 
@@ -199,6 +203,6 @@ pub one-fault : BothWaysFindOneFault
 one-fault request count bytes all can = (
   wrong-is request count bytes all can,
   λ none.
-      let rows : List (List Text) = rows_in None (path_of request.source) (format_told request.source) bytes in
+      let rows : List (List Text) = rows_in None (members_of request.source) (format_told request.source) bytes in
       fault-is request count bytes all none rows refl ∙ one-wrong request.view all.options (streamed_count request count bytes) rows all.rows,
 )

@@ -6,6 +6,7 @@ use Rattle.std.specs.Result.{IsErrAnd, result_err}
 use Rattle.std.proofs.KnownBytes.{Appends-kept, Keeps-refl}
 use Rattle.std.proofs.lemmas.Bool.{false≢true, true≢false}
 use Rattle.pg_layout.specs.Text.{Text}
+use Rattle.ruled_json.specs.Rows.{Rules}
 use Rattle.ruled_csv.specs.declared.fault.RowsFault.{RowsFault}
 use Rattle.ruled_csv.specs.declared.fault.RowsFault.TheVariants as rows
 use Rattle.ruled_json.specs.declared.fault.JsonFault.{JsonFault}
@@ -19,12 +20,12 @@ use Rattle.ruled_database.specs.declared.fault.TableFault.TheVariants as table
 use Rattle.ruled_table.specs.Arranged.{padded_rows}
 use Rattle.ruled_table.specs.View.{table_excess, table_fault, table_text}
 use Rattle.ruled_table.specs.declared.fault.ViewFault.{ViewFault}
-use Rattle.ruled_io.specs.Databases.{LacksAnswer, LacksAnswerOf, LacksQueried, LacksSelected, LacksStored, LacksTableOf, path_in, table_of}
+use Rattle.ruled_io.specs.Databases.{LacksAnswer, LacksAnswerOf, LacksQueried, LacksSelected, LacksStored, LacksTableOf, members_in, table_of}
 use Rattle.ruled_io.specs.Faults.{IsOfRead, Tells, but_line_in, fault_of_database, fault_of_json, fault_of_rows, fault_of_sql, is_early, is_memory, is_of_write, is_read}
 use Rattle.ruled_io.specs.Formats.{content_of, format_in}
 use Rattle.ruled_io.specs.Input.{format_fault, input_fault, rows_in}
 use Rattle.ruled_io.specs.Output.{failure_in, fault_written, write_part, Begins}
-use Rattle.ruled_io.specs.Requests.{format_told, hides_rows, holds_database, known_in, log_of, path_of, rows_needed, selection_of}
+use Rattle.ruled_io.specs.Requests.{format_told, hides_rows, holds_database, known_in, log_of, members_of, rows_needed, selection_of}
 use Rattle.ruled_io.specs.Runs.{AreAsked, AreRows, AreRowsAs, CausedAtOnce, LacksInput, LacksRows, LacksRowsAs, RemarksAll, ShowsAll, remarks_on}
 use Rattle.ruled_io.specs.Steps.{Draws}
 use Rattle.ruled_io.specs.declared.fault.InputFault.{InputFault}
@@ -48,19 +49,19 @@ use Rattle.ruled_io.proofs.Written.{begins-all, begins-kept}
 
 module _ {V : Type 0} (rows : V → List (List Text)) (source : Source) (bytes : List ℕ) where
   -- they are in the bytes
-  module _ (path : List Text) (known : Known) (at : path ≡ path_of source) (is : known ≡ format_told source) (other : holds_database source bytes ≡ false) where
-    same_fault : input_fault None (path_of source) (format_told source) bytes ≡ input_fault None path known bytes
-    same_fault = ap (λ (p : List Text). input_fault None p (format_told source) bytes) (sym at) ∙ ap (λ (k : Known). input_fault None path k bytes) (sym is)
+  module _ (members : Rules) (known : Known) (at : members ≡ members_of source) (is : known ≡ format_told source) (other : holds_database source bytes ≡ false) where
+    same_fault : input_fault None (members_of source) (format_told source) bytes ≡ input_fault None members known bytes
+    same_fault = ap (λ (p : Rules). input_fault None p (format_told source) bytes) (sym at) ∙ ap (λ (k : Known). input_fault None members k bytes) (sym is)
 
-    same_rows : rows_in None path known bytes ≡ rows_in None (path_of source) (format_told source) bytes
-    same_rows = ap (λ (k : Known). rows_in None path k bytes) is ∙ ap (λ (p : List Text). rows_in None p (format_told source) bytes) at
+    same_rows : rows_in None members known bytes ≡ rows_in None (members_of source) (format_told source) bytes
+    same_rows = ap (λ (k : Known). rows_in None members k bytes) is ∙ ap (λ (p : Rules). rows_in None p (format_told source) bytes) at
 
-    pub held_rows : (result : Result V InputFault) → IfOk result (λ v. rows v ≡ rows_in None path known bytes) → Tells (input_fault None path known bytes) result
+    pub held_rows : (result : Result V InputFault) → IfOk result (λ v. rows v ≡ rows_in None members known bytes) → Tells (input_fault None members known bytes) result
         → IfOk result (λ v. AreRows None source bytes (rows v))
     held_rows (Ok v) held tells = subst (λ (holds : Bool). AreRowsAs None holds source bytes (rows v)) (sym other) (same_fault ∙ tells, held ∙ same_rows)
     held_rows (Err fault) held tells = tt
 
-    pub lacking_rows : (result : Result V InputFault) → Tells (input_fault None path known bytes) result → IfErr result (LacksRows None source bytes)
+    pub lacking_rows : (result : Result V InputFault) → Tells (input_fault None members known bytes) result → IfErr result (LacksRows None source bytes)
     lacking_rows (Ok v) tells = tt
     lacking_rows (Err fault) tells = subst (λ (holds : Bool). LacksRowsAs None holds source bytes fault) (sym other) (λ counts. same_fault ∙ tells counts)
 
@@ -144,13 +145,13 @@ mapped : {A : Type 0} (f : A → InputFault) → ((a : A) → is_of_rows (f a) �
 mapped f each None fault is = absurd cc
 mapped f each (Some a) fault is = let same : f a ≡ fault = cc in subst (λ (it : InputFault). is_of_rows it ≡ true) same (each a)
 
-of-format : (path : List Text) (format : Format) (bytes : List ℕ) (fault : InputFault) → format_fault path format bytes ≡ Some fault → is_of_rows fault ≡ true
-of-format path (Separated dialect) bytes fault is = mapped fault_of_rows of-rows _ fault is
-of-format path Json bytes fault is = mapped fault_of_json of-json _ fault is
-of-format path JsonLines bytes fault is = mapped fault_of_json of-json _ fault is
+of-format : (members : Rules) (format : Format) (bytes : List ℕ) (fault : InputFault) → format_fault members format bytes ≡ Some fault → is_of_rows fault ≡ true
+of-format members (Separated dialect) bytes fault is = mapped fault_of_rows of-rows _ fault is
+of-format members Json bytes fault is = mapped fault_of_json of-json _ fault is
+of-format members JsonLines bytes fault is = mapped fault_of_json of-json _ fault is
 
-of-input : (path : List Text) (known : Known) (bytes : List ℕ) (fault : InputFault) → input_fault None path known bytes ≡ Some fault → is_of_rows fault ≡ true
-of-input path known bytes fault is = of-format path (format_in known bytes) (content_of (format_in known bytes) bytes) fault is
+of-input : (members : Rules) (known : Known) (bytes : List ℕ) (fault : InputFault) → input_fault None members known bytes ≡ Some fault → is_of_rows fault ≡ true
+of-input members known bytes fault is = of-format members (format_in known bytes) (content_of (format_in known bytes) bytes) fault is
 
 module _ (query : Query) (known : Known) (bytes : List ℕ) (is : known_in query.known bytes ≡ Some known) where
   abbrev Lacks : InputFault → Type 0
@@ -160,27 +161,27 @@ module _ (query : Query) (known : Known) (bytes : List ℕ) (is : known_in query
   table-lacks fault lacks = subst (λ (it : Option Known). LacksTableOf it query bytes fault) (sym is) lacks
 
   -- the input has none
-  of_table : (fault : InputFault) → (is_memory fault ≡ false → input_fault None (path_in query) known bytes ≡ Some (but_line_in fault)) → Lacks fault
+  of_table : (fault : InputFault) → (is_memory fault ≡ false → input_fault None (members_in query) known bytes ≡ Some (but_line_in fault)) → Lacks fault
   of_table (input.Rows fault) tells = table-lacks (input.Rows fault) (tells refl)
   of_table (input.Json fault) tells = table-lacks (input.Json fault) (tells refl)
-  of_table (input.Sql fault) tells = absurd (false≢true (of-input (path_in query) known bytes (input.Sql fault) (tells refl)))
-  of_table (input.Database fault) tells = absurd (false≢true (of-input (path_in query) known bytes (input.Database fault) (tells refl)))
-  of_table input.Log tells = absurd (false≢true (of-input (path_in query) known bytes input.Log (tells refl)))
-  of_table (input.Stream fault) tells = absurd (false≢true (of-input (path_in query) known bytes (input.Stream fault) (tells refl)))
-  of_table (input.Column name) tells = absurd (false≢true (of-input (path_in query) known bytes (input.Column name) (tells refl)))
-  of_table input.Sort tells = absurd (false≢true (of-input (path_in query) known bytes input.Sort (tells refl)))
-  of_table input.Totals tells = absurd (false≢true (of-input (path_in query) known bytes input.Totals (tells refl)))
+  of_table (input.Sql fault) tells = absurd (false≢true (of-input (members_in query) known bytes (input.Sql fault) (tells refl)))
+  of_table (input.Database fault) tells = absurd (false≢true (of-input (members_in query) known bytes (input.Database fault) (tells refl)))
+  of_table input.Log tells = absurd (false≢true (of-input (members_in query) known bytes input.Log (tells refl)))
+  of_table (input.Stream fault) tells = absurd (false≢true (of-input (members_in query) known bytes (input.Stream fault) (tells refl)))
+  of_table (input.Column name) tells = absurd (false≢true (of-input (members_in query) known bytes (input.Column name) (tells refl)))
+  of_table input.Sort tells = absurd (false≢true (of-input (members_in query) known bytes input.Sort (tells refl)))
+  of_table input.Totals tells = absurd (false≢true (of-input (members_in query) known bytes input.Totals (tells refl)))
   of_table input.Memory tells = tt
 
   -- it has them, and the query has none
-  pub of_table_query : {X : Type 0} (found : SqlFault) (result : Result X InputFault) → input_fault None (path_in query) known bytes ≡ None
-      → (found ≡ sql.NoRows → table_of query (rows_in None (path_in query) known bytes) ≡ [])
+  pub of_table_query : {X : Type 0} (found : SqlFault) (result : Result X InputFault) → input_fault None (members_in query) known bytes ≡ None
+      → (found ≡ sql.NoRows → table_of query (rows_in None (members_in query) known bytes) ≡ [])
       → IsErrAnd result (λ fault. fault ≡ fault_of_sql found) → IfErr result (LacksSelected (Some (Select query)) bytes)
   of_table_query found result sound none told =
       of_query (Some (Select query)) bytes found result (subst (λ (it : Option Known). LacksAnswerOf it query bytes found) (sym is) (sound, none)) told
 
   -- a fault of its rows is handed on
-  pub of_rows : {X : Type 0} (found : InputFault) (result : Result X InputFault) → (is_memory found ≡ false → input_fault None (path_in query) known bytes ≡ Some (but_line_in found)) → IsErrAnd result (λ fault. fault ≡ found)
+  pub of_rows : {X : Type 0} (found : InputFault) (result : Result X InputFault) → (is_memory found ≡ false → input_fault None (members_in query) known bytes ≡ Some (but_line_in found)) → IsErrAnd result (λ fault. fault ≡ found)
       → IfErr result (LacksSelected (Some (Select query)) bytes)
   of_rows found (Ok x) tells told = tt
   of_rows found (Err fault) tells told = subst Lacks (sym told) (of_table found tells)

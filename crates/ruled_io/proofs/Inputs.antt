@@ -5,6 +5,8 @@ use Rattle.std.specs.Io.KnownBytes.{Consumes, IsAtEnd}
 use Rattle.std.specs.Result.{IsErrAnd}
 use Rattle.std.proofs.KnownBytes.{Consumes-trans, Consumes-all, Consumes-nil}
 use Rattle.std.proofs.lemmas.List.{append_cancel_left, take_all}
+use Rattle.ruled_json.specs.Rows.{Rules}
+use Rattle.ruled_json.specs.Streamed.{LineRules}
 use Rattle.ruled_csv.specs.Faults as csv
 use Rattle.ruled_csv.proofs.SoundRows.{all-sound}
 use Rattle.std.proofs.lemmas.Bool.{cases_Bool, lt-ltb, true≢false, false≢true}
@@ -13,8 +15,8 @@ use Rattle.ruled_table.specs.declared.options.Options.{Options}
 use Rattle.csv.specs.Reading.{strip_bom}
 use Rattle.ruled_io.specs.Formats.{content_of, format_shown, format_streamed, is_database, format_in, format_of_all, is_one_value, is_separated}
 use Rattle.ruled_io.specs.Reading.{BeginsSo, GoesOn, HoldsOn, ReadsFront, ShowsFormat, ShowsInput, ShowsSource, Stands, sound_rows, wrong_in}
-use Rattle.ruled_io.specs.Requests.{format_told, holds_database, path_of}
-use Rattle.ruled_io.specs.Stream.{Ends, StreamsAll, first_count, has_names, record_count, streamed_count, streamed_rows, streamed_wrong}
+use Rattle.ruled_io.specs.Requests.{format_told, holds_database, members_of}
+use Rattle.ruled_io.specs.Stream.{Ends, StreamsAll, first_count, has_names, line_rules, record_count, streamed_count, streamed_rows, streamed_wrong}
 use Rattle.ruled_io.specs.declared.fault.InputFault.TheVariants.{Stream, Memory}
 use Rattle.ruled_io.specs.declared.fault.RunFault.{RunFault}
 use Rattle.ruled_io.specs.declared.fault.RunFault.TheVariants.{Input, Read, Closed, Write}
@@ -33,7 +35,7 @@ use Rattle.ruled_csv.specs.declared.dialect.Dialect.{Dialect}
 use Rattle.ruled_io.specs.Faults.{IsOfRead, but_line_in, fault_of_rows, is_memory}
 use Rattle.ruled_io.specs.Input.{fault_within, input_fault, rows_in, rows_within}
 use Rattle.ruled_io.specs.Runs.{AreRows, AreRowsAs, LacksInput, LacksRows, LacksRowsAs}
-use Rattle.ruled_io.specs.Steps.{AreFirst, IsEnough, LacksFirst, fault_of_first, wrong_within}
+use Rattle.ruled_io.specs.Steps.{AreFirst, IsEnough, LacksFirst, fault_of_first, plain_lines, wrong_within}
 use Rattle.ruled_io.specs.declared.fault.InputFault.{InputFault}
 use Rattle.ruled_io.specs.declared.formats.Known.TheVariants as known
 
@@ -69,9 +71,9 @@ shown-all given_format (Some all) (Some rest) front took end = ([], took ∙ ap 
 
 source-shows : (s : Source) (front behind : List ℕ) → ShowsInput (format_told s) front behind → ShowsSource s front behind
 source-shows (source.Rows format) front behind shows = (refl, λ none. shows.rows)
-source-shows (source.Member path) front behind shows = (refl, λ none. shows.rows)
+source-shows (source.Members format members) front behind shows = (refl, λ none. shows.rows)
 source-shows (source.Values rules) front behind shows = (refl, λ none. shows.rows)
-source-shows (source.Seen log rules) front behind shows = (shows.database, λ none. shows.rows)
+source-shows (source.Seen log rules members) front behind shows = (shows.database, λ none. shows.rows)
 source-shows (source.Database selection log) front behind shows = (refl, λ none. absurd (true≢false none))
 
 -- its first bytes are read
@@ -111,7 +113,7 @@ database-ends request count bytes old result holds is =
 -- the rows of an input in the format that its first bytes show
 pub rows-end-so : (request : Request) (count : ℕ) (front rest all : List ℕ) (format : Format) (old new : Option (List ℕ)) (result : Result Remarks RunFault) → all ≡ front ++ rest
     → ShowsSource request.source front rest → holds_database request.source front ≡ false → format ≡ format_streamed (format_told request.source) front
-    → Ends request.view (first_count request.view format count) (sound_rows format (record_count count) (content_of format front ++ rest)) (wrong_in format (record_count count) (content_of format front ++ rest)) old new result → StreamsAll request count all old new result
+    → Ends request.view (first_count request.view format count) (sound_rows format (line_rules count (members_of request.source)) (content_of format front ++ rest)) (wrong_in format (line_rules count (members_of request.source)) (content_of format front ++ rest)) old new result → StreamsAll request count all old new result
 unfolding streamed_rows streamed_wrong
 rows-end-so request count front rest all format old new result is (same, shows) none shown ends =
     let given_format : Known = format_told request.source in
@@ -124,8 +126,8 @@ rows-end-so request count front rest all format old new result is (same, shows) 
     )
     in
     rw (ap (holds_database request.source) is ∙ same ∙ none)
-    (subst (λ (f : Format). Ends request.view (first_count request.view f count) (sound_rows f (record_count count) (content_of f all)) (wrong_in f (record_count count) (content_of f all)) old new result) formats
-    (subst (λ (xs : List ℕ). Ends request.view (first_count request.view format count) (sound_rows format (record_count count) xs) (wrong_in format (record_count count) xs) old new result) content ends))
+    (subst (λ (f : Format). Ends request.view (first_count request.view f count) (sound_rows f (line_rules count (members_of request.source)) (content_of f all)) (wrong_in f (line_rules count (members_of request.source)) (content_of f all)) old new result) formats
+    (subst (λ (xs : List ℕ). Ends request.view (first_count request.view format count) (sound_rows format (line_rules count (members_of request.source)) xs) (wrong_in format (line_rules count (members_of request.source)) xs) old new result) content ends))
 
 -- what holds of all bytes
 pub if-known : {P : List ℕ → Type 0} (given : Option (List ℕ)) → ((bytes : List ℕ) → given ≡ Some bytes → P bytes) → IfSome given P
@@ -137,7 +139,7 @@ if-more None p q = tt
 if-more (Some bytes) p q = q bytes refl p
 
 -- rows that the first bytes give
-pub stands-so : (format : Format) (records : ℕ) (all : List ℕ) (left : Option (List ℕ)) (old new : List (List Text)) (reading : Reading) → old ≡ [] → GoesOn format records all left [] old new reading → Stands format records all left new reading
+pub stands-so : (format : Format) (records : LineRules) (all : List ℕ) (left : Option (List ℕ)) (old new : List (List Text)) (reading : Reading) → old ≡ [] → GoesOn format records all left [] old new reading → Stands format records all left new reading
 stands-so format records all left old new reading none (more, is, stands) = subst (λ (rows : List (List Text)). Stands format records all left rows reading) (sym (is ∙ ap (λ (xs : List (List Text)). xs ++ more) none)) stands
 
 -- ---- the first rows of an input
@@ -160,10 +162,10 @@ rest-all front held given mid (done, is, took) end = Consumes-all given mid done
 
 -- ---- the first rows
 
-module _ (format : Format) (limit : ℕ) (all : List ℕ) (left : Option (List ℕ)) (given : List (List Text)) (reading : Reading) (enough : IsEnough limit given reading) (stands : Stands format 1 all left given reading) where
+module _ (format : Format) (limit : ℕ) (all : List ℕ) (left : Option (List ℕ)) (given : List (List Text)) (reading : Reading) (enough : IsEnough limit given reading) (stands : Stands format plain_lines all left given reading) where
   -- nothing is wrong with them
   pub first-are : wrong_within limit (length given) reading ≡ None → AreFirst format limit all (take limit given)
-  first-are none = (fine (wrong_in format 1 all) (nat_lt (length (sound_rows format 1 all)) limit) (open-rows limit format 1 all left given reading enough stands none), first-rows limit format 1 all left given reading enough stands) where
+  first-are none = (fine (wrong_in format plain_lines all) (nat_lt (length (sound_rows format plain_lines all)) limit) (open-rows limit format plain_lines all left given reading enough stands none), first-rows limit format plain_lines all left given reading enough stands) where
     fine : (wrong : Option InputFault) (short : Bool) → (is_some wrong && short) ≡ false → (if short then wrong else None) ≡ None
     fine wrong false whole = refl
     fine None true whole = refl
@@ -171,7 +173,7 @@ module _ (format : Format) (limit : ℕ) (all : List ℕ) (left : Option (List �
 
   -- they end at a bad one
   pub first-lack : (fault : InputFault) → wrong_within limit (length given) reading ≡ Some fault → fault_of_first format limit all ≡ Some (but_line_in fault)
-  first-lack fault some = let (wrong, short) = short-rows limit format 1 all left given reading fault stands some in rw (short, wrong) refl
+  first-lack fault some = let (wrong, short) = short-rows limit format plain_lines all left given reading fault stands some in rw (short, wrong) refl
 
 pub read-first : (format : Format) (limit : ℕ) (all : List ℕ) (found : RunFault) → IsOfRead found → LacksFirst format limit all found
 read-first format limit all found (inl memory) = subst (LacksFirst format limit all) (sym memory) (λ soft. absurd (true≢false soft))
@@ -191,25 +193,25 @@ other-in k text other = elim (cases_Bool (is_one_value k (format_shown k text) t
 ]
 
 -- of another format, no row is left out
-within-other : (limit : ℕ) (path : List Text) (format : Format) (bytes : List ℕ) → is_separated format ≡ false
-    → (rows_within (Some limit) path format bytes ≡ rows_within None path format bytes) × (fault_within (Some limit) path format bytes ≡ fault_within None path format bytes)
-within-other limit path (Separated dialect) bytes other = absurd (true≢false other)
-within-other limit path Json bytes other = (refl, refl)
-within-other limit path JsonLines bytes other = (refl, refl)
+within-other : (limit : ℕ) (members : Rules) (format : Format) (bytes : List ℕ) → is_separated format ≡ false
+    → (rows_within (Some limit) members format bytes ≡ rows_within None members format bytes) × (fault_within (Some limit) members format bytes ≡ fault_within None members format bytes)
+within-other limit members (Separated dialect) bytes other = absurd (true≢false other)
+within-other limit members Json bytes other = (refl, refl)
+within-other limit members JsonLines bytes other = (refl, refl)
 
 module _ (origin : Source) (limit : ℕ) (bytes : List ℕ) where
   other-rows : (holds : Bool) (rows : List (List Text)) → (holds ≡ false → is_separated (format_in (format_told origin) bytes) ≡ false) → AreRowsAs None holds origin bytes rows → AreRowsAs (Some limit) holds origin bytes rows
   other-rows true rows other are = are
   other-rows false rows other (fine, are) =
       let format : Format = format_in (format_told origin) bytes in
-      let (same, told) = within-other limit (path_of origin) format (content_of format bytes) (other refl) in
+      let (same, told) = within-other limit (members_of origin) format (content_of format bytes) (other refl) in
       (told ∙ fine, are ∙ sym same)
 
   other-lacks : (holds : Bool) (fault : InputFault) → (holds ≡ false → is_separated (format_in (format_told origin) bytes) ≡ false) → LacksRowsAs None holds origin bytes fault → LacksRowsAs (Some limit) holds origin bytes fault
   other-lacks true fault other lacks = go fault lacks where
     go : (f : InputFault) → LacksRowsAs None true origin bytes f → LacksRowsAs (Some limit) true origin bytes f
     go f lacks = lacks
-  other-lacks false fault other lacks = λ soft. (within-other limit (path_of origin) (format_in (format_told origin) bytes) (content_of (format_in (format_told origin) bytes) bytes) (other refl)).1 ∙ lacks soft
+  other-lacks false fault other lacks = λ soft. (within-other limit (members_of origin) (format_in (format_told origin) bytes) (content_of (format_in (format_told origin) bytes) bytes) (other refl)).1 ∙ lacks soft
 
 -- ---- all rows, where fewer are there than are needed
 
@@ -226,9 +228,9 @@ told-if : {X : Type 0} (b : Bool) (o : Option X) (x : X) → (if b then o else N
 told-if true o x is = is
 told-if false o x is = absurd (cc)
 
-few-are : (limit : ℕ) (path : List Text) (format : Format) (bytes : List ℕ) (rows : List (List Text)) → fault_within (Some limit) path format bytes ≡ None
-    → rows ≡ rows_within (Some limit) path format bytes → length rows < limit → (fault_within None path format bytes ≡ None) × (rows ≡ rows_within None path format bytes)
-few-are limit path (Separated dialect) bytes rows none are few =
+few-are : (limit : ℕ) (members : Rules) (format : Format) (bytes : List ℕ) (rows : List (List Text)) → fault_within (Some limit) members format bytes ≡ None
+    → rows ≡ rows_within (Some limit) members format bytes → length rows < limit → (fault_within None members format bytes ≡ None) × (rows ≡ rows_within None members format bytes)
+few-are limit members (Separated dialect) bytes rows none are few =
     let sound : List (List Text) = csv.sound_rows dialect bytes in
     let long : length rows ≡ length (take limit sound) = ap (λ (xs : List (List Text)). length xs) are in
     let less : length sound < limit = omega (arith, few, long, length-take limit sound) in
@@ -236,14 +238,14 @@ few-are limit path (Separated dialect) bytes rows none are few =
     let fault : option_map fault_of_rows (csv.rows_fault dialect bytes) ≡ None = none-if (nat_lt (length sound) limit) (option_map fault_of_rows (csv.rows_fault dialect bytes)) all none in
     let clean : csv.rows_fault dialect bytes ≡ None = unmapped fault_of_rows (csv.rows_fault dialect bytes) fault in
     (fault, are ∙ take_all limit sound (omega (arith, less)) ∙ all-sound dialect bytes clean)
-few-are limit path Json bytes rows none are few = (none, are)
-few-are limit path JsonLines bytes rows none are few = (none, are)
+few-are limit members Json bytes rows none are few = (none, are)
+few-are limit members JsonLines bytes rows none are few = (none, are)
 
-few-lack : (limit : ℕ) (path : List Text) (format : Format) (bytes : List ℕ) (fault : InputFault) → fault_within (Some limit) path format bytes ≡ Some fault
-    → fault_within None path format bytes ≡ Some fault
-few-lack limit path (Separated dialect) bytes fault is = told-if (nat_lt (length (csv.sound_rows dialect bytes)) limit) _ fault is
-few-lack limit path Json bytes fault is = is
-few-lack limit path JsonLines bytes fault is = is
+few-lack : (limit : ℕ) (members : Rules) (format : Format) (bytes : List ℕ) (fault : InputFault) → fault_within (Some limit) members format bytes ≡ Some fault
+    → fault_within None members format bytes ≡ Some fault
+few-lack limit members (Separated dialect) bytes fault is = told-if (nat_lt (length (csv.sound_rows dialect bytes)) limit) _ fault is
+few-lack limit members Json bytes fault is = is
+few-lack limit members JsonLines bytes fault is = is
 
 module _ (origin : Source) (limit : ℕ) (bytes : List ℕ) where
   needed-are : (needed : Option ℕ) (holds : Bool) (rows : List (List Text)) → AreRowsAs (Some (unwrap_or needed limit)) holds origin bytes rows → length rows < limit → AreRowsAs needed holds origin bytes rows
@@ -251,7 +253,7 @@ module _ (origin : Source) (limit : ℕ) (bytes : List ℕ) where
   needed-are None true rows are few = are
   needed-are None false rows (none, are) few =
       let format : Format = format_in (format_told origin) bytes in
-      few-are limit (path_of origin) format (content_of format bytes) rows none are few
+      few-are limit (members_of origin) format (content_of format bytes) rows none are few
 
   needed-lack : (needed : Option ℕ) (holds : Bool) (fault : InputFault) → LacksRowsAs (Some (unwrap_or needed limit)) holds origin bytes fault → LacksRowsAs needed holds origin bytes fault
   needed-lack (Some n) holds fault lacks = lacks
@@ -260,7 +262,7 @@ module _ (origin : Source) (limit : ℕ) (bytes : List ℕ) where
     go f lacks = lacks
   needed-lack None false fault lacks = λ soft.
       let format : Format = format_in (format_told origin) bytes in
-      few-lack limit (path_of origin) format (content_of format bytes) (but_line_in fault) (lacks soft)
+      few-lack limit (members_of origin) format (content_of format bytes) (but_line_in fault) (lacks soft)
 
   -- as many rows as are needed, or all, of which there are fewer than the greatest number
   pub rows-needed : (needed : Option ℕ) (rows : List (List Text)) → AreRows (Some (unwrap_or needed limit)) origin bytes rows → length rows < limit → AreRows needed origin bytes rows

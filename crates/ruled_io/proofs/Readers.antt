@@ -2,6 +2,7 @@
 use Rattle.std.proofs.Common.{◌≡◌, ◌∙◌, ℕ, Bool, true, false, List, [], ◌++◌, Option, Some, None, refl, sym, ap, subst, append-nil, append_assoc, ◌≢◌, ◌∷◌, Result, Ok, Err, arith}
 use Rattle.std.specs.Io.KnownBytes.{Consumes, IsAtEnd}
 use Rattle.pg_layout.specs.Text.{Text}
+use Rattle.ruled_json.specs.Streamed.{LineRules}
 use Rattle.ruled_io.specs.Reading.{Ends, Gives, GoesOn, HasTaken, Stands, ended_rows, sound_rows, wrong_in, AppendsRest}
 use Rattle.ruled_io.specs.declared.formats.Format.{Format}
 use Rattle.ruled_io.specs.declared.reader.Reader.{Reader}
@@ -39,7 +40,7 @@ use Rattle.ruled_io.specs.declared.formats.Format.TheVariants.{Separated, JsonLi
 -- ---- a reading that goes on
 
 -- rows that are complete are a beginning of all
-ended-sound : (format : Format) (records : ℕ) (before behind : List ℕ) (reader : Reader) → HasTaken format records before reader → (more : List (List Text)) × (ended_rows format records before ++ more ≡ sound_rows format records (before ++ behind))
+ended-sound : (format : Format) (records : LineRules) (before behind : List ℕ) (reader : Reader) → HasTaken format records before reader → (more : List (List Text)) × (ended_rows format records before ++ more ≡ sound_rows format records (before ++ behind))
 ended-sound format records before behind (Rows reader) (dialect, is, has) =
     let (more, same) = csv.ended-sound dialect before behind reader has in
     subst (λ (f : Format). (more : List (List Text)) × (ended_rows f records before ++ more ≡ sound_rows f records (before ++ behind))) (sym is) (more, sym same)
@@ -47,7 +48,7 @@ ended-sound format records before behind (Lines reader) (is, has) =
     let (more, same) = json.ended-sound records before behind reader has in
     subst (λ (f : Format). (more : List (List Text)) × (ended_rows f records before ++ more ≡ sound_rows f records (before ++ behind))) (sym is) (more, sym same)
 
-module _ (format : Format) (records : ℕ) where
+module _ (format : Format) (records : LineRules) where
   -- rows that a piece gives
   pub given-on : (all before bytes behind : List ℕ) (left : Option (List ℕ)) (given old new : List (List Text)) (reading : Reading) → all ≡ (before ++ bytes) ++ behind → left ≡ Some behind
       → given ≡ ended_rows format records before → Gives format records before bytes ((before ++ bytes) ++ behind) old new reading → GoesOn format records all left given old new reading
@@ -106,7 +107,7 @@ lines-wrong (json_fault.NoObject place) some = refl
 lines-wrong (json_fault.NoColumn place) some = refl
 lines-wrong json_fault.Memory some = absurd (some refl)
 
-module _ (format : Format) (records : ℕ) (before bytes all : List ℕ) (old new : List (List Text)) where
+module _ (format : Format) (records : LineRules) (before bytes all : List ℕ) (old new : List (List Text)) where
   pub rows-more : (dialect : Dialect) (reader : RowReader) → format ≡ Separated dialect → csv_reading.HasRead dialect (before ++ bytes) reader
       → AppendsRest (csv_rows.ended_rows dialect before) (csv_rows.ended_rows dialect (before ++ bytes)) old new → Gives format records before bytes all old new (More (Rows reader))
   rows-more dialect reader is has rest = subst (λ (f : Format). Gives f records before bytes all old new (More (Rows reader))) (sym is) ((dialect, refl, has), rest)
@@ -127,7 +128,7 @@ module _ (format : Format) (records : ℕ) (before bytes all : List ℕ) (old ne
       subst (λ (f : Format). Gives f records before bytes all old new (Done (Some (input.Json found)))) (sym is)
       (ap (option_map fault_of_json) (told some) ∙ ap (λ (f : InputFault). Some f) (lines-wrong found some), rest some)
 
-module _ (format : Format) (records : ℕ) (bytes : List ℕ) (old new : List (List Text)) where
+module _ (format : Format) (records : LineRules) (bytes : List ℕ) (old new : List (List Text)) where
   pub rows-end : (dialect : Dialect) → format ≡ Separated dialect → csv_faults.rows_fault dialect bytes ≡ None
       → AppendsRest (csv_rows.ended_rows dialect bytes) (csv_faults.sound_rows dialect bytes) old new → Ends format records bytes old new (Done None)
   rows-end dialect is none rest = subst (λ (f : Format). Ends f records bytes old new (Done None)) (sym is) (ap (option_map fault_of_rows) none, rest)
@@ -166,7 +167,7 @@ no-rows : (dialect : Dialect) → csv_faults.sound_rows dialect [] ≡ []
 unfolding csv_faults.sound_rows kept_text
 no-rows dialect = ap (λ (rows : List (List Text)). take_while (csv_faults.is_sound dialect (csv_rows.columns_of rows)) rows) (no-row dialect)
 
-no-lines : (records : ℕ) → json_streamed.sound_line_rows records [] ≡ []
+no-lines : (records : LineRules) → json_streamed.sound_line_rows records [] ≡ []
 unfolding strip_bom json_rows.line_rows_of json_faults.line_rows_fault
 no-lines records =
     let none = json.fault-as-at-once records [] (omega arith) in
@@ -177,13 +178,13 @@ rows-begin dialect reader has =
     let (more, same) = csv.ended-sound dialect [] [] reader has in
     nil-front (csv_rows.ended_rows dialect []) more (sym same ∙ no-rows dialect)
 
-pub lines-begin : (records : ℕ) (reader : LineReader) → json_reading.HasRead records [] reader → json_streamed.ended_line_rows records [] ≡ []
+pub lines-begin : (records : LineRules) (reader : LineReader) → json_reading.HasRead records [] reader → json_streamed.ended_line_rows records [] ≡ []
 lines-begin records reader has =
     let (more, same) = json.ended-sound records [] [] reader has in
     nil-front (json_streamed.ended_line_rows records []) more (sym same ∙ no-lines records)
 
 -- the rows that the first bytes give
-pub front-rows : {E : Type 0} (format : Format) (records : ℕ) (front rest : List ℕ) (old new : List (List Text)) (result : Result Reading E) → ended_rows format records [] ≡ []
+pub front-rows : {E : Type 0} (format : Format) (records : LineRules) (front rest : List ℕ) (old new : List (List Text)) (result : Result Reading E) → ended_rows format records [] ≡ []
     → IfOk result (Gives format records [] front (([] ++ front) ++ rest) old new) → IfOk result (GoesOn format records (front ++ rest) (Some rest) [] old new)
 front-rows format records front rest old new (Ok reading) none gives = given-on format records (front ++ rest) [] front rest (Some rest) [] old new reading refl refl (sym none) gives
 front-rows format records front rest old new (Err fault) none gives = tt

@@ -13,7 +13,7 @@ use Rattle.csv.specs.Reading.{strip_bom}
 use Rattle.json.specs.Json.{Json}
 use Rattle.ruled_json.specs.Faults.{first_line_fault, line_after, line_fault, line_rows_fault}
 use Rattle.ruled_json.specs.Rows.{columns_of, has_all, line_rows_of, lines_of, names_in, record_on, records_on, row_of, table_in, table_of, with_name}
-use Rattle.ruled_json.specs.Streamed.{fault_behind, first_columns, first_fault_behind, late_fault, left_of, lines_above_fault, number_behind, sound_line_rows, streamed_line_fault, streamed_table}
+use Rattle.ruled_json.specs.Streamed.{LineRules, fault_behind, first_columns, first_fault_behind, late_fault, left_of, lines_above_fault, number_behind, sound_line_rows, streamed_line_fault, streamed_table}
 use Rattle.ruled_json.specs.declared.fault.JsonFault.{JsonFault}
 use Rattle.ruled_json.specs.declared.fault.JsonFault.TheVariants.{NoColumn}
 use Rattle.ruled_json.specs.declared.place.Place.TheVariants.{Line}
@@ -30,14 +30,14 @@ both-none None second e = (refl, e)
 both-none (Some x) second e = absurd (cc)
 
 -- where nothing is wrong, no line is left out
-all-lines : (k : ℕ) (above lines : List (List ℕ)) → first_fault_behind k above lines ≡ None → lines_above_fault k above lines ≡ above ++ lines
+all-lines : (k : LineRules) (above lines : List (List ℕ)) → first_fault_behind k above lines ≡ None → lines_above_fault k above lines ≡ above ++ lines
 all-lines k above [] none = sym (append-nil above)
 all-lines k above (line ∷ lines) none =
     let parts = both-none (fault_behind k above line) (first_fault_behind k (above ++ line ∷ []) lines) none in
     rw parts.0 (all-lines k (above ++ line ∷ []) lines parts.1 ∙ append_assoc above (line ∷ []) lines)
 
 -- and no line is bad for itself
-lines-fine : (k : ℕ) (above lines : List (List ℕ)) → first_fault_behind k above lines ≡ None → first_line_fault (number_behind above) lines ≡ None
+lines-fine : (k : LineRules) (above lines : List (List ℕ)) → first_fault_behind k above lines ≡ None → first_line_fault (number_behind above) lines ≡ None
 lines-fine k above [] none = refl
 lines-fine k above (line ∷ lines) none =
     let (here, later) = both-none (fault_behind k above line) (first_fault_behind k (above ++ line ∷ []) lines) none in
@@ -62,7 +62,7 @@ more-columns above v =
     ∙ ap (fold with_name (columns_of above)) (append-nil (names_in v))
 
 -- the first records say all columns
-abbrev SayAll : ℕ → List Json → Type 0
+abbrev SayAll : LineRules → List Json → Type 0
 SayAll k records = first_columns k records ≡ columns_of records
 
 above-none : (n : ℕ) → (n == 0) ≡ false → 0 < n
@@ -74,18 +74,18 @@ flipped true fault none = refl
 flipped false fault none = absurd (cc)
 
 -- so they do with one more, where nothing is wrong with it
-one-more : (k n : ℕ) (above : List Json) (v : Json) → late_fault k above n v ≡ None → SayAll k above → SayAll k (above ++ v ∷ [])
+one-more : (k : LineRules) (n : ℕ) (above : List Json) (v : Json) → late_fault k above n v ≡ None → SayAll k above → SayAll k (above ++ v ∷ [])
 one-more k n above v none all = elim (cases_Bool (left_of k above == 0)) [
   | inl known ↦
       let left : left_of k above ≡ 0 = eqb-true (left_of k above) 0 known in
-      let first : first_columns k (above ++ v ∷ []) ≡ first_columns k above = ap columns_of (take-append-le k above (v ∷ []) (omega arith)) in
+      let first : first_columns k (above ++ v ∷ []) ≡ first_columns k above = ap columns_of (take-append-le k.records above (v ∷ []) (omega arith)) in
       let wrong = λ (b : Bool). if b && not (has_all (first_columns k above) v) then Some (NoColumn (Line n)) else None in
       let named : has_all (first_columns k above) v ≡ true = flipped (has_all (first_columns k above) v) (NoColumn (Line n)) (ap wrong (sym known) ∙ none) in
       first ∙ sym (more-columns above v ∙ ap (λ (c : List (List ℕ)). fold with_name c (names_in v)) (sym all) ∙ known-names (first_columns k above) (names_in v) named)
-  | inr some ↦ ap columns_of (take_all k (above ++ v ∷ []) (omega (arith, above-none (left_of k above) some, length-append above (v ∷ []))))
+  | inr some ↦ ap columns_of (take_all k.records (above ++ v ∷ []) (omega (arith, above-none (left_of k above) some, length-append above (v ∷ []))))
 ]
 
-line-more : (k : ℕ) (above : List (List ℕ)) (line : List ℕ) (found : Option Json) → found ≡ record_on line → fault_behind k above line ≡ None → SayAll k (records_on above)
+line-more : (k : LineRules) (above : List (List ℕ)) (line : List ℕ) (found : Option Json) → found ≡ record_on line → fault_behind k above line ≡ None → SayAll k (records_on above)
     → SayAll k (records_on above ++ cons_option found [])
 line-more k above line None is fine all = subst (SayAll k) (sym (append-nil (records_on above))) all
 line-more k above line (Some v) is fine all =
@@ -93,7 +93,7 @@ line-more k above line (Some v) is fine all =
     let (own, named) = both-none (line_fault n line) (option_and_then (late_fault k (records_on above) n) (record_on line)) fine in
     one-more k n (records_on above) v (ap (option_and_then (late_fault k (records_on above) n)) is ∙ named) all
 
-say-all : (k : ℕ) (above lines : List (List ℕ)) → first_fault_behind k above lines ≡ None → SayAll k (records_on above) → SayAll k (records_on (above ++ lines))
+say-all : (k : LineRules) (above lines : List (List ℕ)) → first_fault_behind k above lines ≡ None → SayAll k (records_on above) → SayAll k (records_on (above ++ lines))
 say-all k above [] none all = subst (λ (ls : List (List ℕ)). SayAll k (records_on ls)) (sym (append-nil above)) all
 say-all k above (line ∷ lines) none all =
     let (here, later) = both-none (fault_behind k above line) (first_fault_behind k (above ++ line ∷ []) lines) none in
@@ -102,16 +102,16 @@ say-all k above (line ∷ lines) none all =
 
 -- ---- where nothing is wrong with a stream
 
-pub fine-at-once : (k : ℕ) (bytes : List ℕ) → streamed_line_fault k bytes ≡ None → line_rows_fault (strip_bom bytes) ≡ None
+pub fine-at-once : (k : LineRules) (bytes : List ℕ) → streamed_line_fault k bytes ≡ None → line_rows_fault (strip_bom bytes) ≡ None
 unfolding streamed_line_fault line_rows_fault
 fine-at-once k bytes none = lines-fine k [] (lines_of (strip_bom bytes)) none
 
-pub rows-at-once : (k : ℕ) (bytes : List ℕ) → streamed_line_fault k bytes ≡ None → sound_line_rows k bytes ≡ line_rows_of (strip_bom bytes)
+pub rows-at-once : (k : LineRules) (bytes : List ℕ) → streamed_line_fault k bytes ≡ None → sound_line_rows k bytes ≡ line_rows_of k.members (strip_bom bytes)
 unfolding streamed_line_fault sound_line_rows line_rows_of
 rows-at-once k bytes none =
     let lines : List (List ℕ) = lines_of (strip_bom bytes) in
     ap (λ (ls : List (List ℕ)). streamed_table k (records_on ls)) (all-lines k [] lines none)
-    ∙ ap (λ (columns : List (List ℕ)). table_in columns (records_on lines)) (say-all k [] lines none (ap columns_of (take_all k [] (omega arith))))
+    ∙ ap (λ (columns : List (List ℕ)). table_in k.members.null_text columns (records_on lines)) (say-all k [] lines none (ap columns_of (take_all k.records [] (omega arith))))
 
 -- ---- records without names
 
@@ -123,12 +123,12 @@ neither : (b : Bool) (fault : JsonFault) → (if b && false then Some fault else
 neither true fault = refl
 neither false fault = refl
 
-nameless : (k n : ℕ) (above : List Json) (v : Json) → names_in v ≡ [] → late_fault k above n v ≡ None
+nameless : (k : LineRules) (n : ℕ) (above : List Json) (v : Json) → names_in v ≡ [] → late_fault k above n v ≡ None
 nameless k n above v none =
     let named : has_all (first_columns k above) v ≡ true = ap (list_all (λ name. list_any (bytes_eq name) (first_columns k above))) none in
     ap (λ (b : Bool). if (left_of k above == 0) && not b then Some (NoColumn (Line n)) else None) named ∙ neither (left_of k above == 0) (NoColumn (Line n))
 
-nameless-line : (k : ℕ) (above : List (List ℕ)) (line : List ℕ) (found : Option Json) → found ≡ record_on line → flat_map names_in (cons_option found []) ≡ []
+nameless-line : (k : LineRules) (above : List (List ℕ)) (line : List ℕ) (found : Option Json) → found ≡ record_on line → flat_map names_in (cons_option found []) ≡ []
     → fault_behind k above line ≡ line_fault (number_behind above) line
 nameless-line k above line None is none =
     ap (λ (v : Option Json). option_or (line_fault (number_behind above) line) (option_and_then (late_fault k (records_on above) (number_behind above)) v)) (sym is)
@@ -147,7 +147,7 @@ split-names : (found : Option Json) (records : List Json) → flat_map names_in 
 split-names None records none = (refl, none)
 split-names (Some v) records none = let (here, later) = both-nil (names_in v) (flat_map names_in records) none in (append-nil (names_in v) ∙ here, later)
 
-nameless-lines : (k : ℕ) (above lines : List (List ℕ)) → flat_map names_in (records_on lines) ≡ [] → first_fault_behind k above lines ≡ first_line_fault (number_behind above) lines
+nameless-lines : (k : LineRules) (above lines : List (List ℕ)) → flat_map names_in (records_on lines) ≡ [] → first_fault_behind k above lines ≡ first_line_fault (number_behind above) lines
 nameless-lines k above [] none = refl
 nameless-lines k above (line ∷ lines) none =
     let (here, later) = split-names (record_on line) (records_on lines) none in
@@ -173,14 +173,14 @@ no-names (name ∷ names) none = absurd (omega (arith, only-more (name ∷ []) n
 -- ---- where no more records are there than say columns, or no column
 
 -- the same is wrong as at once
-pub same-fault : (k : ℕ) (bytes : List ℕ) → length (line_rows_of (strip_bom bytes)) ≤ k + 1 → streamed_line_fault k bytes ≡ line_rows_fault (strip_bom bytes)
+pub same-fault : (k : LineRules) (bytes : List ℕ) → length (line_rows_of k.members (strip_bom bytes)) ≤ k.records + 1 → streamed_line_fault k bytes ≡ line_rows_fault (strip_bom bytes)
 unfolding line_rows_fault line_rows_of streamed_line_fault
 same-fault k bytes few =
     let records : List Json = records_on (lines_of (strip_bom bytes)) in
     elim (cases_Bool (length (columns_of records) == 0)) [
       | inl no-column ↦ nameless-lines k [] (lines_of (strip_bom bytes)) (no-names (flat_map names_in records) (eqb-true (length (columns_of records)) 0 no-column))
       | inr some ↦
-          let all : length (table_of records) ≡ length (columns_of records ∷ map (row_of (columns_of records)) records) =
-          ap (λ (b : Bool). length (if b then [] else columns_of records ∷ map (row_of (columns_of records)) records)) some in
-          fault-as-at-once k bytes (omega (arith, all, length-map records (row_of (columns_of records))))
+          let all : length (table_of k.members.null_text records) ≡ length (columns_of records ∷ map (row_of k.members.null_text (columns_of records)) records) =
+          ap (λ (b : Bool). length (if b then [] else columns_of records ∷ map (row_of k.members.null_text (columns_of records)) records)) some in
+          fault-as-at-once k bytes (omega (arith, all, length-map records (row_of k.members.null_text (columns_of records))))
     ]

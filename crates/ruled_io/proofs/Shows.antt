@@ -7,6 +7,7 @@ use Rattle.std.proofs.KnownBytes.{Appends-kept, Appends-nil, Keeps-refl}
 use Rattle.std.proofs.lemmas.Bool.{cases_Bool, eqb-true, le-ltb, ltb-false, true≢false}
 use Rattle.std.proofs.lemmas.List.{nil_from_length, take-append-le}
 use Rattle.pg_layout.specs.Text.{Text}
+use Rattle.ruled_json.specs.Streamed.{LineRules}
 use Rattle.ruled_table.specs.Faults.{is_memory as is_lost}
 use Rattle.ruled_table.specs.Layouts.{first_fault, layout_of}
 use Rattle.ruled_table.specs.Plans.{Plan}
@@ -33,7 +34,7 @@ use Rattle.ruled_io.proofs.Readers.{stands-begin}
 
 -- ---- the first rows of an input
 
-module _ (count : ℕ) (format : Format) (records : ℕ) (all : List ℕ) where
+module _ (count : ℕ) (format : Format) (records : LineRules) (all : List ℕ) where
   -- no bad row is among them
   pub open-rows : (left : Option (List ℕ)) (given : List (List Text)) (reading : Reading) → IsEnough count given reading → Stands format records all left given reading → wrong_within count (length given) reading ≡ None
       → (is_some (wrong_in format records all) && nat_lt (length (sound_rows format records all)) count) ≡ false

@@ -7,6 +7,7 @@ use Rattle.std.proofs.KnownBytes.{Keeps-refl}
 use Rattle.std.proofs.lemmas.Bool.{true≢false}
 use Rattle.std.proofs.lemmas.List.{drop_more}
 use Rattle.pg_layout.specs.Text.{Text}
+use Rattle.ruled_json.specs.Streamed.{LineRules}
 use Rattle.ruled_table.specs.Appended.{HasAppended}
 use Rattle.ruled_table.specs.Layouts.{whole_text}
 use Rattle.ruled_table.specs.Plans.{Plan}
@@ -182,7 +183,7 @@ module _ (options : Options) (plan : Plan) where
   lines-begin above table rows None has = begun-whole options plan above table rows has
   lines-begin above table rows (Some fault) has = ([], append-nil (begun_text options plan rows))
 
-  module _ (format : Format) (records : ℕ) (all : List ℕ) where
+  module _ (format : Format) (records : LineRules) (all : List ℕ) where
     abbrev sound : List (List Text)
     sound = sound_rows format records all
 

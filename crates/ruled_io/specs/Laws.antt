@@ -7,7 +7,7 @@ use Rattle.ruled_table.specs.declared.options.Vertical.TheVariants.{Never}
 use Rattle.ruled_io.specs.Faults.{of_view}
 use Rattle.ruled_io.specs.Formats.{format_in}
 use Rattle.ruled_io.specs.Input.{input_fault, rows_in}
-use Rattle.ruled_io.specs.Requests.{format_told, holds_database, path_of}
+use Rattle.ruled_io.specs.Requests.{format_told, holds_database, members_of}
 use Rattle.ruled_io.specs.Runs.{ShowsBy}
 use Rattle.ruled_io.specs.Stream.{streamed_count, streamed_fault, streamed_format, streamed_wrong}
 use Rattle.ruled_io.specs.declared.formats.Format.TheVariants.{Json}
@@ -32,7 +32,7 @@ module _ (request : Request) (count : ℕ) (bytes : List ℕ) where
   pub record AllAreFirst : Type 0 where
     pub options : ShowsEachRow request.view
     -- no more rows than the first so many
-    pub rows : length (rows_in None (path_of request.source) (format_told request.source) bytes) ≤ streamed_count request count bytes
+    pub rows : length (rows_in None (members_of request.source) (format_told request.source) bytes) ≤ streamed_count request count bytes
     -- the first bytes show the format that all show, or it is given; else what begins with `{` may be one JSON value, or lines of JSON
     pub format : format_in (format_told request.source) bytes ≡ streamed_format request count bytes
 
@@ -55,5 +55,5 @@ AtOnceShowsAsStreams = (request : Request) (count : ℕ) (bytes : List ℕ) (tex
 -- the same is wrong with the rows, or else with their table
 abbrev pub BothWaysFindOneFault : Type 0
 BothWaysFindOneFault = (request : Request) (count : ℕ) (bytes : List ℕ) → AllAreFirst request count bytes → IsStreamable request count bytes
-    → (streamed_wrong request count bytes ≡ input_fault None (path_of request.source) (format_told request.source) bytes)
-    × (streamed_wrong request count bytes ≡ None → streamed_fault request count bytes ≡ option_map of_view (table_fault request.view (rows_in None (path_of request.source) (format_told request.source) bytes)))
+    → (streamed_wrong request count bytes ≡ input_fault None (members_of request.source) (format_told request.source) bytes)
+    × (streamed_wrong request count bytes ≡ None → streamed_fault request count bytes ≡ option_map of_view (table_fault request.view (rows_in None (members_of request.source) (format_told request.source) bytes)))

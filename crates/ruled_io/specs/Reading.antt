@@ -8,6 +8,7 @@ use Rattle.ruled_csv.specs.Rows as csv_rows
 use Rattle.ruled_csv.specs.declared.dialect.Dialect.{Dialect}
 use Rattle.ruled_json.specs.Reading as json_reading
 use Rattle.ruled_json.specs.Streamed as json_streamed
+use Rattle.ruled_json.specs.Streamed.{LineRules}
 use Rattle.ruled_io.specs.Faults.{but_line_in, fault_of_json, fault_of_rows, is_read, read_part}
 use Rattle.ruled_io.specs.Formats.{content_of, format_shown, is_database, setting_of}
 use Rattle.ruled_io.specs.Requests.{format_told, holds_database}
@@ -43,29 +44,29 @@ ReportsRead failure result = IfErr result (λ fault. is_read fault ≡ true → 
 -- ---- a whole input
 
 -- its rows above the first bad one, all where nothing is wrong; so many first records say the columns of lines of JSON
-abbrev pub sound_rows : Format → ℕ → List ℕ → List (List Text)
-sound_rows (Separated dialect) records bytes = csv_faults.sound_rows dialect bytes
-sound_rows Json records bytes = []
-sound_rows JsonLines records bytes = json_streamed.sound_line_rows records bytes
+abbrev pub sound_rows : Format → LineRules → List ℕ → List (List Text)
+sound_rows (Separated dialect) rules bytes = csv_faults.sound_rows dialect bytes
+sound_rows Json rules bytes = []
+sound_rows JsonLines rules bytes = json_streamed.sound_line_rows rules bytes
 
 -- what is wrong with it; a value that holds all rows isn't read one row after another
-abbrev pub wrong_in : Format → ℕ → List ℕ → Option InputFault
-wrong_in (Separated dialect) records bytes = option_map fault_of_rows (csv_faults.rows_fault dialect bytes)
-wrong_in Json records bytes = Some (Stream Value)
-wrong_in JsonLines records bytes = option_map fault_of_json (json_streamed.streamed_line_fault records bytes)
+abbrev pub wrong_in : Format → LineRules → List ℕ → Option InputFault
+wrong_in (Separated dialect) rules bytes = option_map fault_of_rows (csv_faults.rows_fault dialect bytes)
+wrong_in Json rules bytes = Some (Stream Value)
+wrong_in JsonLines rules bytes = option_map fault_of_json (json_streamed.streamed_line_fault rules bytes)
 
 -- ---- a beginning of it
 
 -- the rows that are complete in it
-abbrev pub ended_rows : Format → ℕ → List ℕ → List (List Text)
-ended_rows (Separated dialect) records bytes = csv_rows.ended_rows dialect bytes
-ended_rows Json records bytes = []
-ended_rows JsonLines records bytes = json_streamed.ended_line_rows records bytes
+abbrev pub ended_rows : Format → LineRules → List ℕ → List (List Text)
+ended_rows (Separated dialect) rules bytes = csv_rows.ended_rows dialect bytes
+ended_rows Json rules bytes = []
+ended_rows JsonLines rules bytes = json_streamed.ended_line_rows rules bytes
 
 -- a reader has read these bytes of an input in this format, and found nothing wrong
-abbrev pub HasTaken : Format → ℕ → List ℕ → Reader → Type 0
-HasTaken format records bytes (Rows reader) = (dialect : Dialect) × (format ≡ Separated dialect) × csv_reading.HasRead dialect bytes reader
-HasTaken format records bytes (Lines reader) = (format ≡ JsonLines) × json_reading.HasRead records bytes reader
+abbrev pub HasTaken : Format → LineRules → List ℕ → Reader → Type 0
+HasTaken format rules bytes (Rows reader) = (dialect : Dialect) × (format ≡ Separated dialect) × csv_reading.HasRead dialect bytes reader
+HasTaken format rules bytes (Lines reader) = (format ≡ JsonLines) × json_reading.HasRead rules bytes reader
 
 -- behind the old rows stand those which with the rows above are all of these
 abbrev pub AppendsRest : List (List Text) → List (List Text) → List (List Text) → List (List Text) → Type 0
@@ -73,29 +74,29 @@ AppendsRest above all old new = (rows : List (List Text)) × (new ≡ old ++ row
 
 -- ---- a reader
 
-module _ (format : Format) (records : ℕ) (before bytes all : List ℕ) (old new : List (List Text)) where
+module _ (format : Format) (rules : LineRules) (before bytes all : List ℕ) (old new : List (List Text)) where
   -- it has read more bytes, and given the rows that are complete with them; or the input is bad, and it has given all above the first bad row
   abbrev pub Gives : Reading → Type 0
-  Gives (More reader) = HasTaken format records (before ++ bytes) reader × AppendsRest (ended_rows format records before) (ended_rows format records (before ++ bytes)) old new
-  Gives (Done wrong) = (wrong_in format records all ≡ option_map but_line_in wrong) × AppendsRest (ended_rows format records before) (sound_rows format records all) old new
+  Gives (More reader) = HasTaken format rules (before ++ bytes) reader × AppendsRest (ended_rows format rules before) (ended_rows format rules (before ++ bytes)) old new
+  Gives (Done wrong) = (wrong_in format rules all ≡ option_map but_line_in wrong) × AppendsRest (ended_rows format rules before) (sound_rows format rules all) old new
 
 -- it has given all rows above the first bad one, and tells what is wrong
-module _ (format : Format) (records : ℕ) (bytes : List ℕ) (old new : List (List Text)) where
+module _ (format : Format) (rules : LineRules) (bytes : List ℕ) (old new : List (List Text)) where
   abbrev pub Ends : Reading → Type 0
   Ends (More reader) = ⊥
-  Ends (Done wrong) = (wrong_in format records bytes ≡ option_map but_line_in wrong) × AppendsRest (ended_rows format records bytes) (sound_rows format records bytes) old new
+  Ends (Done wrong) = (wrong_in format rules bytes ≡ option_map but_line_in wrong) × AppendsRest (ended_rows format rules bytes) (sound_rows format rules bytes) old new
 
 -- ---- a reading
 
 -- of these bytes some are left, which the input gives next, and these rows were given
-module _ (format : Format) (records : ℕ) (all : List ℕ) (left : Option (List ℕ)) (given : List (List Text)) where
+module _ (format : Format) (rules : LineRules) (all : List ℕ) (left : Option (List ℕ)) (given : List (List Text)) where
   abbrev pub Stands : Reading → Type 0
-  Stands (More reader) = (before rest : List ℕ) × (all ≡ before ++ rest) × (left ≡ Some rest) × HasTaken format records before reader × (given ≡ ended_rows format records before)
-  Stands (Done wrong) = (given ≡ sound_rows format records all) × (wrong_in format records all ≡ option_map but_line_in wrong)
+  Stands (More reader) = (before rest : List ℕ) × (all ≡ before ++ rest) × (left ≡ Some rest) × HasTaken format rules before reader × (given ≡ ended_rows format rules before)
+  Stands (Done wrong) = (given ≡ sound_rows format rules all) × (wrong_in format rules all ≡ option_map but_line_in wrong)
 
 -- a reading goes on with more rows behind the old ones
-abbrev pub GoesOn : Format → ℕ → List ℕ → Option (List ℕ) → List (List Text) → List (List Text) → List (List Text) → Reading → Type 0
-GoesOn format records all left given old new reading = (more : List (List Text)) × (new ≡ old ++ more) × Stands format records all left (given ++ more) reading
+abbrev pub GoesOn : Format → LineRules → List ℕ → Option (List ℕ) → List (List Text) → List (List Text) → List (List Text) → Reading → Type 0
+GoesOn format rules all left given old new reading = (more : List (List Text)) × (new ≡ old ++ more) × Stands format rules all left (given ++ more) reading
 
 -- ---- the first bytes of an input
 

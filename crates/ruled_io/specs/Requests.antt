@@ -1,8 +1,9 @@
 -- What is asked of a run.
-use Rattle.std.specs.Prelude.{ℕ, ◌-◌, ◌==◌, ◌&&◌, ◌||◌, is_some, length, map, max, string_bytes, Bool, true, false, List, [], Option, Some, None, option_map, if◌then◌else◌}
+use Rattle.std.specs.Prelude.{ℕ, ◌-◌, ◌==◌, ◌&&◌, ◌||◌, is_some, length, max, Bool, true, false, List, [], Option, Some, None, option_map, if◌then◌else◌}
 use Rattle.ruled_csv.specs.declared.dialect.RowRules.{RowRules}
 use Rattle.ruled_database.specs.Files.{keeps_log}
 use Rattle.ruled_io.specs.Formats as formats
+use Rattle.ruled_json.specs.Rows.{Rules, plain_rules, rules_of}
 use Rattle.ruled_table.specs.Shown.{limit_of}
 use Rattle.ruled_table.specs.declared.options.Options.{Options}
 use Rattle.ruled_io.specs.declared.formats.Format.{Format}
@@ -14,33 +15,33 @@ use Rattle.ruled_io.specs.declared.request.Log.TheVariants.{Empty, Filled, Unkno
 use Rattle.ruled_io.specs.declared.request.Selection.{Selection}
 use Rattle.ruled_io.specs.declared.request.Source.{Source}
 use Rattle.ruled_io.specs.declared.request.Selection.TheVariants.{Query as Select, Table, Tables}
-use Rattle.ruled_io.specs.declared.request.Source.TheVariants.{Rows, Member, Values, Seen, Database}
+use Rattle.ruled_io.specs.declared.request.Source.TheVariants.{Rows, Members, Values, Seen, Database}
 
 -- what is told of the format of its rows
 abbrev pub format_told : Source → Known
 format_told (Rows format) = known.Format format
-format_told (Member path) = known.Format format.Json
+format_told (Members format members) = known.Format format
 format_told (Values rules) = known.Values rules
-format_told (Seen log rules) = known.Nothing rules
+format_told (Seen log rules members) = known.Nothing rules
 format_told (Database selection log) = known.Nothing formats.plain
 
 -- the same of its rows, unless they are a database's
 abbrev pub known_rows : Source → Option Known
 known_rows (Rows format) = Some (known.Format format)
-known_rows (Member path) = Some (known.Format format.Json)
+known_rows (Members format members) = Some (known.Format format)
 known_rows (Values rules) = Some (known.Values rules)
-known_rows (Seen log rules) = Some (known.Nothing rules)
+known_rows (Seen log rules members) = Some (known.Nothing rules)
 known_rows (Database selection log) = None
 
--- the path of the member that has the rows, where they are JSON
-abbrev pub path_of : Source → List (List ℕ)
-path_of (Rows format) = []
-path_of (Member path) = map string_bytes path.items
-path_of (Values rules) = []
-path_of (Seen log rules) = []
-path_of (Database (Select query) log) = map string_bytes query.path.items
-path_of (Database (Table name) log) = []
-path_of (Database Tables log) = []
+-- how the rows are read, where they are JSON
+abbrev pub members_of : Source → Rules
+members_of (Rows format) = plain_rules
+members_of (Members format members) = rules_of members
+members_of (Values rules) = plain_rules
+members_of (Seen log rules members) = rules_of members
+members_of (Database (Select query) log) = rules_of query.members
+members_of (Database (Table name null_text) log) = plain_rules
+members_of (Database Tables log) = plain_rules
 
 -- these bytes are a database, where this is known of the format of rows
 abbrev pub sees_database : Known → List ℕ → Bool
@@ -56,32 +57,32 @@ known_in (Some told) bytes = if sees_database told bytes then None else Some tol
 -- it is a database, or asked as one: that is told, or the first bytes show it
 abbrev pub holds_database : Source → List ℕ → Bool
 holds_database (Rows format) bytes = false
-holds_database (Member path) bytes = false
+holds_database (Members format members) bytes = false
 holds_database (Values rules) bytes = false
-holds_database (Seen log rules) bytes = formats.is_database bytes
+holds_database (Seen log rules members) bytes = formats.is_database bytes
 holds_database (Database selection log) bytes = true
 
 -- what is asked of a database
 abbrev pub selection_of : Source → Option Selection
 selection_of (Rows format) = None
-selection_of (Member path) = None
+selection_of (Members format members) = None
 selection_of (Values rules) = None
-selection_of (Seen log rules) = None
+selection_of (Seen log rules members) = None
 selection_of (Database selection log) = Some selection
 
 -- what is known of its logs
 abbrev pub log_of : Source → Log
 log_of (Rows format) = Empty
-log_of (Member path) = Empty
+log_of (Members format members) = Empty
 log_of (Values rules) = Empty
-log_of (Seen log rules) = log
+log_of (Seen log rules members) = log
 log_of (Database selection log) = log
 
 abbrev pub with_log : Log → Source → Source
 with_log log (Rows format) = Rows format
-with_log log (Member path) = Member path
+with_log log (Members format members) = Members format members
 with_log log (Values rules) = Values rules
-with_log log (Seen old rules) = Seen log rules
+with_log log (Seen old rules members) = Seen log rules members
 with_log log (Database selection old) = Database selection log
 
 -- which lines of separated values are rows, and how long these may be
@@ -92,9 +93,9 @@ ruled_format rules format.JsonLines = format.JsonLines
 
 abbrev pub with_rules : RowRules → Source → Source
 with_rules rules (Rows format) = Rows (ruled_format rules format)
-with_rules rules (Member path) = Member path
+with_rules rules (Members format members) = Members format members
 with_rules rules (Values old) = Values rules
-with_rules rules (Seen log old) = Seen log rules
+with_rules rules (Seen log old members) = Seen log rules members
 with_rules rules (Database selection log) = Database selection log
 
 -- rows of a database may stand in a log beside its file

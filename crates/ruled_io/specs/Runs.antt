@@ -7,7 +7,7 @@ use Rattle.ruled_table.specs.View.{table_excess, table_fault, table_text}
 use Rattle.ruled_io.specs.Databases.{AreSelected, LacksAnswer, LacksQueried, LacksStored}
 use Rattle.ruled_io.specs.Faults.{but_line_in, fault_of_view, is_memory}
 use Rattle.ruled_io.specs.Input.{input_fault, rows_in}
-use Rattle.ruled_io.specs.Requests.{format_told, hides_rows, holds_database, log_of, path_of, rows_needed, selection_of}
+use Rattle.ruled_io.specs.Requests.{format_told, hides_rows, holds_database, log_of, members_of, rows_needed, selection_of}
 use Rattle.ruled_io.specs.Stream.{StopsStream, streamed_fault, streamed_remarks, streamed_text, streamed_wrong}
 use Rattle.ruled_io.specs.Output.{Begins}
 use Rattle.ruled_io.specs.declared.fault.InputFault.{InputFault}
@@ -29,7 +29,7 @@ AreAsked source bytes rows = (hides_rows (log_of source) bytes ≡ false) × Are
 -- the rows are the answer, or those that the bytes hold
 abbrev pub AreRowsAs : Option ℕ → Bool → Source → List ℕ → List (List Text) → Type 0
 AreRowsAs limit false source bytes rows =
-    (input_fault limit (path_of source) (format_told source) bytes ≡ None) × (rows ≡ rows_in limit (path_of source) (format_told source) bytes)
+    (input_fault limit (members_of source) (format_told source) bytes ≡ None) × (rows ≡ rows_in limit (members_of source) (format_told source) bytes)
 AreRowsAs limit true source bytes rows = AreAsked source bytes rows
 
 abbrev pub AreRows : Option ℕ → Source → List ℕ → List (List Text) → Type 0
@@ -37,7 +37,7 @@ AreRows limit source bytes rows = AreRowsAs limit (holds_database source bytes) 
 
 -- why there are none, unless memory was refused; a log that may hide rows comes before all that is asked of a database
 abbrev pub LacksRowsAs : Option ℕ → Bool → Source → List ℕ → InputFault → Type 0
-LacksRowsAs limit false source bytes fault = is_memory fault ≡ false → input_fault limit (path_of source) (format_told source) bytes ≡ Some (but_line_in fault)
+LacksRowsAs limit false source bytes fault = is_memory fault ≡ false → input_fault limit (members_of source) (format_told source) bytes ≡ Some (but_line_in fault)
 LacksRowsAs limit true source bytes (input.Rows fault) = (hides_rows (log_of source) bytes ≡ false) × LacksQueried (selection_of source) bytes (input.Rows fault)
 LacksRowsAs limit true source bytes (input.Json fault) = (hides_rows (log_of source) bytes ≡ false) × LacksQueried (selection_of source) bytes (input.Json fault)
 LacksRowsAs limit true source bytes (input.Stream fault) = ⊥

@@ -5,6 +5,8 @@ use Rattle.pg_layout.specs.Text.{Text}
 use Rattle.ruled_table.specs.Plans.{Plan}
 use Rattle.ruled_table.specs.RowLines.{HasNoRoom, begun_text}
 use Rattle.ruled_io.specs.Faults.{but_line, but_line_in, fault_of_view, is_early, is_failure, is_memory, is_read}
+use Rattle.ruled_json.specs.Rows.{plain_rules}
+use Rattle.ruled_json.specs.Streamed.{LineRules}
 use Rattle.ruled_io.specs.Reading.{sound_rows, wrong_in}
 use Rattle.ruled_io.specs.Stream.{lines_in}
 use Rattle.ruled_io.specs.Output.{Begins}
@@ -82,13 +84,17 @@ module _ (text : Text) (wrong : Option ViewFault) (old new : Option (List ℕ)) 
 
 -- ---- the first rows of an input
 
+-- no rule of lines of JSON is asked for
+abbrev pub plain_lines : LineRules
+plain_lines = record { records = 1; members = plain_rules }
+
 module _ (format : Format) (limit : ℕ) (all : List ℕ) where
   -- what is wrong where fewer stand above the first bad one
   abbrev pub fault_of_first : Option InputFault
-  fault_of_first = if nat_lt (length (sound_rows format 1 all)) limit then wrong_in format 1 all else None
+  fault_of_first = if nat_lt (length (sound_rows format plain_lines all)) limit then wrong_in format plain_lines all else None
 
   abbrev pub AreFirst : List (List Text) → Type 0
-  AreFirst rows = (fault_of_first ≡ None) × (rows ≡ take limit (sound_rows format 1 all))
+  AreFirst rows = (fault_of_first ≡ None) × (rows ≡ take limit (sound_rows format plain_lines all))
 
   -- why there are none, unless memory was refused
   abbrev pub LacksFirst : RunFault → Type 0

@@ -3,6 +3,8 @@ use Rattle.std.specs.Prelude.{◌≡◌, ◌⊎◌, ℕ, ◌+◌, ◌-◌, ◌^�
 use Rattle.std.specs.Prelude.{Result, Ok, Err, if◌then◌else◌}
 use Rattle.std.specs.Io.KnownBytes.{Appends}
 use Rattle.pg_layout.specs.Text.{Text}
+use Rattle.ruled_json.specs.Rows.{Rules}
+use Rattle.ruled_json.specs.Streamed.{LineRules}
 use Rattle.ruled_table.specs.Layouts.{first_fault, layout_of, whole_text}
 use Rattle.ruled_table.specs.Plans.{Plan}
 use Rattle.ruled_table.specs.RowLines.{HasNoRoom, begun_text}
@@ -10,7 +12,7 @@ use Rattle.ruled_table.specs.View.{excess_of}
 use Rattle.ruled_io.specs.Faults.{but_line, is_failure, of_view}
 use Rattle.ruled_io.specs.Formats.{content_of, format_streamed}
 use Rattle.ruled_io.specs.Reading.{sound_rows, wrong_in}
-use Rattle.ruled_io.specs.Requests.{format_told, holds_database}
+use Rattle.ruled_io.specs.Requests.{format_told, holds_database, members_of}
 use Rattle.ruled_io.specs.Output.{Begins}
 use Rattle.ruled_io.specs.declared.fault.InputFault.{InputFault}
 use Rattle.ruled_io.specs.declared.fault.InputFault.TheVariants.{Stream, Totals}
@@ -38,6 +40,10 @@ record_count count = if count == 0 then 1 else count
 -- and such a row 0
 abbrev pub first_count : Options → Format → ℕ → ℕ
 first_count options format count = if has_names options format then min (record_count count + 1) (2 ^ 64 - 1) else record_count count
+
+-- how lines of JSON are read
+abbrev pub line_rules : ℕ → Rules → LineRules
+line_rules count members = record { records = record_count count; members = members }
 
 -- ---- what is shown
 
@@ -93,12 +99,15 @@ module _ (request : Request) (count : ℕ) (bytes : List ℕ) where
   abbrev pub streamed_format : Format
   streamed_format = format_streamed (format_told request.source) bytes
 
+  abbrev pub streamed_rules : LineRules
+  streamed_rules = line_rules count (members_of request.source)
+
   -- its rows above the first bad one, and what is wrong with it
   unfoldable pub streamed_rows : List (List Text)
-  streamed_rows = if holds_database request.source bytes then [] else sound_rows streamed_format (record_count count) (content_of streamed_format bytes)
+  streamed_rows = if holds_database request.source bytes then [] else sound_rows streamed_format streamed_rules (content_of streamed_format bytes)
 
   unfoldable pub streamed_wrong : Option InputFault
-  streamed_wrong = if holds_database request.source bytes then Some (Stream Database) else wrong_in streamed_format (record_count count) (content_of streamed_format bytes)
+  streamed_wrong = if holds_database request.source bytes then Some (Stream Database) else wrong_in streamed_format streamed_rules (content_of streamed_format bytes)
 
   abbrev pub streamed_count : ℕ
   streamed_count = first_count request.view streamed_format count

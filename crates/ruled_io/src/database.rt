@@ -42,10 +42,10 @@ fn queried_rows(
     ensures rows { IfOk result (λ rows. AreAnswer (Some known) query.now bytes.now (map fields_of rows.items)) }
     ensures cause { known_in query.now.known bytes.now ≡ Some known → IfErr result (LacksSelected (Some (Select query.now)) bytes.now) }
 {
-    let rows = rows_in(alloc, known, &query.path, bytes)?;
+    let rows = rows_in(alloc, known, &query.members, bytes)?;
     let table = table_of(alloc, query, rows)?;
-    let text = query.text.as_str();
-    Ok(query_table(alloc, query.table.as_str(), &table, text, query.steps)?)
+    let (text, null) = (query.text.as_str(), query.null.as_str());
+    Ok(query_table(alloc, query.table.as_str(), &table, text, query.steps, null)?)
 }
 
 // The rows that a query answers.
@@ -55,7 +55,10 @@ fn answer_rows(alloc: Global, query: &Query, bytes: &[u8]) -> Result<Vec<StringR
 {
     match query.known_in(bytes) {
         Some(known) => queried_rows(alloc, query, known, bytes),
-        None => Ok(query_rows(alloc, bytes, query.text.as_str(), query.steps)?),
+        None => {
+            let (text, null) = (query.text.as_str(), query.null.as_str());
+            Ok(query_rows(alloc, bytes, text, query.steps, null)?)
+        }
     }
 }
 
@@ -70,7 +73,9 @@ fn selected_rows(
 {
     match selection {
         Some(Selection::Query(query)) => answer_rows(alloc, query, bytes),
-        Some(Selection::Table(name)) => Ok(table_rows(alloc, bytes, name.as_str())?),
+        Some(Selection::Table { name, null }) => {
+            Ok(table_rows(alloc, bytes, name.as_str(), null.as_str())?)
+        }
         Some(Selection::Tables) | None => Ok(list_rows(alloc, bytes)?),
     }
 }

@@ -220,7 +220,11 @@ impl InputFault {
                 _ => writeln!(err, "{fault}"),
             },
             InputFault::Database(fault) => match request.source.selection() {
-                Some(Selection::Table(name)) => writeln!(err, "{}: {fault}", Quoted(name.as_str())),
+                Some(Selection::Table { name, .. }) => writeln!(
+                    err,
+                    "{}: {fault}",
+                    Quoted(name.as_str())
+                ),
                 _ => writeln!(err, "{fault}"),
             },
             InputFault::Log => writeln!(err, "{}", words_of(request.source.log())),

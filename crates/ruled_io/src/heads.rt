@@ -16,6 +16,7 @@ use crate::reader::Reading;
 use crate::request::Source;
 use crate::stream::{read_first, wrong_within};
 use csv::StringRecord;
+use ruled_json::MemberRules;
 use ruled_table::{Options, limit_of};
 use std::alloc::Global;
 use std::io::Read;
@@ -49,7 +50,8 @@ fn first_rows<R: Read + Drop>(
     ensures noted { ReportsRead (read_failure pieces.new) result }
 {
     let mut rows = Vec::new(alloc);
-    let reading = Reading::of_front(alloc, format, 1, front, &mut rows)?;
+    let plain = MemberRules::new(alloc);
+    let reading = Reading::of_front(alloc, format, &plain, 1, front, &mut rows)?;
     let reading = read_first(reading, limit, pieces, &mut rows)?;
     if let Some(fault) = wrong_within(&reading, limit, rows.len()) {
         return Err(RunFault::Input(fault));

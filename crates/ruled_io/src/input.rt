@@ -1,7 +1,8 @@
 //! The rows that an input holds, or that are asked of it.
 
-ghost use Rattle.std.specs.Prelude.{◌≡◌, None, map, string_bytes, IfErr, IfOk};
+ghost use Rattle.std.specs.Prelude.{◌≡◌, None, map, IfErr, IfOk};
 ghost use Rattle.csv.specs.Records.{fields_of};
+ghost use Rattle.ruled_json.specs.Rows.{rules_of};
 ghost use Rattle.ruled_io.specs.Faults.{Tells};
 ghost use Rattle.ruled_io.specs.Input.{format_fault, input_fault, rows_in, rows_of};
 ghost use Rattle.ruled_io.specs.Runs.{AreRows, LacksRows};
@@ -12,38 +13,38 @@ use crate::formats::{Format, Known, content_of, format_in};
 use crate::request::Source;
 use csv::StringRecord;
 use ruled_csv::{read_rows, without_mark};
-use ruled_json::read_line_rows;
+use ruled_json::{MemberRules, read_line_rows};
 use std::alloc::Global;
 
-// The rows that bytes of this format hold, of JSON those of the member at this path.
+// The rows that bytes of this format hold, of JSON as these rules say.
 fn rows_of(
     alloc: Global,
     format: Format,
-    path: &[String],
+    members: &MemberRules,
     bytes: &[u8],
 ) -> Result<Vec<StringRecord>, InputFault>
-    ensures rows { IfOk result (λ rows. map fields_of rows.items ≡ rows_of (map string_bytes path.now) format bytes.now) }
-    ensures fault { Tells (format_fault (map string_bytes path.now) format bytes.now) result }
+    ensures rows { IfOk result (λ rows. map fields_of rows.items ≡ rows_of (rules_of members.now) format bytes.now) }
+    ensures fault { Tells (format_fault (rules_of members.now) format bytes.now) result }
 {
     match format {
         Format::Separated(dialect) => Ok(read_rows(alloc, dialect, bytes)?),
-        Format::Json => Ok(ruled_json::read_rows(alloc, without_mark(bytes), path)?),
-        Format::JsonLines => Ok(read_line_rows(alloc, without_mark(bytes))?),
+        Format::Json => Ok(ruled_json::read_rows(alloc, members, without_mark(bytes))?),
+        Format::JsonLines => Ok(read_line_rows(alloc, members, without_mark(bytes))?),
     }
 }
 
-/// The rows that bytes hold, of which the first is row 0, or why there are none. JSON has them in the member at this path.
+/// The rows that bytes hold, of which the first is row 0, or why there are none. JSON has them as these rules say.
 pub(crate) fn rows_in(
     alloc: Global,
     known: Known,
-    path: &[String],
+    members: &MemberRules,
     bytes: &[u8],
 ) -> Result<Vec<StringRecord>, InputFault>
-    ensures rows { IfOk result (λ rows. map fields_of rows.items ≡ rows_in None (map string_bytes path.now) known bytes.now) }
-    ensures fault { Tells (input_fault None (map string_bytes path.now) known bytes.now) result }
+    ensures rows { IfOk result (λ rows. map fields_of rows.items ≡ rows_in None (rules_of members.now) known bytes.now) }
+    ensures fault { Tells (input_fault None (rules_of members.now) known bytes.now) result }
 {
     let format = format_in(alloc, known, bytes)?;
-    rows_of(alloc, format, path, content_of(format, bytes))
+    rows_of(alloc, format, members, content_of(format, bytes))
 }
 
 /// The rows of an input of these bytes, of which the first is row 0, or why there are none.
@@ -58,5 +59,6 @@ pub(crate) fn all_rows(
     if source.is_database(bytes) {
         return asked_rows(alloc, source, bytes);
     }
-    rows_in(alloc, source.known(), source.path(), bytes)
+    let plain = MemberRules::new(alloc);
+    rows_in(alloc, source.known(), source.members_or(&plain), bytes)
 }

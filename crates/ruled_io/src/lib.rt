@@ -32,3 +32,4 @@ pub use crate::pieces::Pieces;
 pub use crate::program::{Ending, Remarks, run};
 pub use crate::request::{Log, Query, Request, Rows, Selection, Source};
 pub use ruled_csv::{Dialect, Fields, RowRules};
+pub use ruled_json::MemberRules;

@@ -4,6 +4,7 @@ ghost use Rattle.std.specs.Prelude.{◌≡◌, ◌≤◌, ◌<◌, ◌++◌, ℕ
 ghost use Rattle.std.specs.IoError.{error_kind};
 ghost use Rattle.std.specs.Io.KnownBytes.{Consumes, IsAtEnd};
 ghost use Rattle.csv.specs.Records.{fields_of};
+ghost use Rattle.ruled_json.specs.Streamed.{LineRules};
 ghost use Rattle.ruled_io.specs.Faults.{IsOfRead, is_read, read_part};
 ghost use Rattle.ruled_io.specs.Reading.{BeginsSo, GoesOn, ReadsFront, ReportsRead, Stands, read_failure, left_in};
 ghost use Rattle.ruled_io.specs.declared.formats.Format.{Format};
@@ -126,9 +127,9 @@ impl<R: Read + Drop> Pieces<R> {
         reader: Reader,
         rows: &mut Vec<StringRecord>,
     ) -> Result<Reading, RunFault>
-        ensures given { (format : Format) (records : ℕ) (all : List ℕ) (given : List (List (List ℕ)))
-            → Stands format records all (R.remaining self.old.input) given (Reading.More reader)
-            → IfOk result (GoesOn format records all (R.remaining self.new.input) given (map fields_of rows.old.items) (map fields_of rows.new.items)) }
+        ensures given { (format : Format) (rules : LineRules) (all : List ℕ) (given : List (List (List ℕ)))
+            → Stands format rules all (R.remaining self.old.input) given (Reading.More reader)
+            → IfOk result (GoesOn format rules all (R.remaining self.new.input) given (map fields_of rows.old.items) (map fields_of rows.new.items)) }
         ensures failed { IfErr result IsOfRead }
         ensures noted { ReportsRead (read_failure self.new) result }
     {

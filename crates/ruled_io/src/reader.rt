@@ -2,6 +2,8 @@
 
 ghost use Rattle.std.specs.Prelude.{◌≡◌, ◌++◌, [], ℕ, List, Some, map, IfErr, IfOk};
 ghost use Rattle.csv.specs.Records.{fields_of};
+ghost use Rattle.ruled_json.specs.Rows.{rules_of};
+ghost use Rattle.ruled_json.specs.Streamed.{LineRules};
 ghost use Rattle.ruled_io.specs.Reading.{Ends, Gives, GoesOn, HasTaken};
 ghost use Rattle.ruled_io.specs.declared.formats.Format.{Format};
 
@@ -9,7 +11,7 @@ use crate::fault::{InputFault, StreamedFault};
 use crate::formats::Format;
 use csv::StringRecord;
 use ruled_csv::{RowReader, RowsFault};
-use ruled_json::{JsonFault, LineReader};
+use ruled_json::{JsonFault, LineReader, MemberRules};
 use std::alloc::Global;
 
 /// A reader of the rows of a format.
@@ -40,8 +42,8 @@ impl Reader {
         bytes: &[u8],
         rows: &mut Vec<StringRecord>,
     ) -> Result<Reading, InputFault>
-        ensures given { (format : Format) (records : ℕ) (before behind : List ℕ) → HasTaken format records before self
-            → IfOk result (Gives format records before bytes.now ((before ++ bytes.now) ++ behind) (map fields_of rows.old.items) (map fields_of rows.new.items)) }
+        ensures given { (format : Format) (rules : LineRules) (before behind : List ℕ) → HasTaken format rules before self
+            → IfOk result (Gives format rules before bytes.now ((before ++ bytes.now) ++ behind) (map fields_of rows.old.items) (map fields_of rows.new.items)) }
         ensures memory { IfErr result (λ fault. fault ≡ InputFault.Memory) }
     {
         match self {
@@ -63,8 +65,8 @@ impl Reader {
     ///
     /// The only fault is out of memory.
     pub(crate) fn finish(self, rows: &mut Vec<StringRecord>) -> Result<Reading, InputFault>
-        ensures given { (format : Format) (records : ℕ) (bytes : List ℕ) → HasTaken format records bytes self
-            → IfOk result (Ends format records bytes (map fields_of rows.old.items) (map fields_of rows.new.items)) }
+        ensures given { (format : Format) (rules : LineRules) (bytes : List ℕ) → HasTaken format rules bytes self
+            → IfOk result (Ends format rules bytes (map fields_of rows.old.items) (map fields_of rows.new.items)) }
         ensures memory { IfErr result (λ fault. fault ≡ InputFault.Memory) }
     {
         match self {
@@ -84,17 +86,18 @@ impl Reader {
 
 impl Reading {
     /// The reading of an input in this format, of which these are the first bytes; the members of
-    /// so many first records are the columns of lines of JSON.
+    /// so many first records are the columns of lines of JSON, of which these rules say how they are read.
     ///
     /// The only fault is out of memory.
     pub(crate) fn of_front(
         alloc: Global,
         format: Format,
+        members: &MemberRules,
         records: usize,
         front: &[u8],
         rows: &mut Vec<StringRecord>,
     ) -> Result<Reading, InputFault>
-        ensures given { (rest : List ℕ) → IfOk result (GoesOn format records (front.now ++ rest) (Some rest) [] (map fields_of rows.old.items) (map fields_of rows.new.items)) }
+        ensures given { (rest : List ℕ) → IfOk result (GoesOn format (record { records = records; members = rules_of members.now }) (front.now ++ rest) (Some rest) [] (map fields_of rows.old.items) (map fields_of rows.new.items)) }
         ensures memory { IfErr result (λ fault. fault ≡ InputFault.Memory) }
     {
         match format {
@@ -103,7 +106,7 @@ impl Reading {
                 Reader::Rows(reader).read(front, rows)
             }
             Format::JsonLines => {
-                let reader = LineReader::new(alloc, records);
+                let reader = LineReader::new(alloc, members, records)?;
                 Reader::Lines(reader).read(front, rows)
             }
             Format::Json => Ok(Reading::Done(Some(InputFault::Stream(StreamedFault::Value)))),

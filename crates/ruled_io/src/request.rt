@@ -1,11 +1,13 @@
 //! Requests.
 
 ghost use Rattle.std.specs.Prelude.{◌≡◌, map, option_map, string_bytes};
+ghost use Rattle.ruled_json.specs.Rows.{plain_rules, rules_of};
 ghost use Rattle.ruled_io.specs.Requests as spec;
 
 use crate::formats::{Format, Known, is_database};
 use ruled_csv::RowRules;
 use ruled_database::keeps_log;
+use ruled_json::MemberRules;
 use ruled_table::Options;
 
 /// What is known of the logs beside the file of a database.
@@ -40,8 +42,8 @@ pub struct Query {
     pub text: String,
     /// What is known of the rows that it reads, unless these are a database's.
     pub known: Option<Known>,
-    /// The path of the member that has these rows, if they are JSON: none for the value itself.
-    pub path: Vec<String>,
+    /// Where these rows are, and how they are read, if they are JSON.
+    pub members: MemberRules,
     /// The name of the table of these rows, for which `input` does, too.
     pub table: String,
     /// Names above them, if there are any.
@@ -50,6 +52,8 @@ pub struct Query {
     pub is_padded: bool,
     /// How many steps it may take: each row that it reads or returns is one.
     pub steps: u64,
+    /// The text that is shown for NULL.
+    pub null: String,
 }
 
 // Whether these bytes are a database, where this is known of the format of rows.
@@ -80,8 +84,8 @@ impl Query {
 pub enum Selection {
     /// Those that a query selects.
     Query(Query),
-    /// All rows of the table of this name of a database, in any case.
-    Table(String),
+    /// All rows of the table of this name of a database, in any case, with this text for NULL.
+    Table { name: String, null: String },
     /// A row for each table and each view of a database, with its columns.
     Tables,
 }
@@ -91,17 +95,29 @@ pub enum Selection {
 pub enum Source {
     /// Rows in this format.
     Rows(Format),
-    /// One JSON value, of which the member at this path has the rows.
-    Member(Vec<String>),
+    /// Rows of JSON in this format, as these rules say.
+    Members {
+        format: Format,
+        members: MemberRules,
+    },
     /// Rows of separated values, as these rules say, with the delimiter that the first line sets or the line of
     /// the first row has most often.
-    Values { rules: RowRules },
+    Values {
+        rules: RowRules,
+    },
     /// Rows in the format that the first bytes show: `[` begins JSON; `{` begins JSON if all is one
     /// value, else lines of JSON; anything else is separated values like `Values`. Of a database, which the
     /// first bytes show, too, the tables are listed.
-    Seen { log: Log, rules: RowRules },
+    Seen {
+        log: Log,
+        rules: RowRules,
+        members: MemberRules,
+    },
     /// A database of SQLite, or rows of which a query selects, and which rows are shown.
-    Database { selection: Selection, log: Log },
+    Database {
+        selection: Selection,
+        log: Log,
+    },
 }
 
 impl Source {
@@ -111,7 +127,7 @@ impl Source {
     {
         match self {
             Source::Rows(format) => Known::Format(*format),
-            Source::Member(_) => Known::Format(Format::Json),
+            Source::Members { format, .. } => Known::Format(*format),
             Source::Values { rules } => Known::Values { rules: *rules },
             Source::Seen { rules, .. } => Known::Nothing { rules: *rules },
             Source::Database { .. } => Known::Nothing {
@@ -130,16 +146,31 @@ impl Source {
         }
     }
 
-    // The path of the member that has the rows, if they are JSON.
-    pub(crate) fn path(&self) -> &[String]
-        ensures { map string_bytes result.now ≡ spec.path_of self.now }
+    // How its rows are read, if they are JSON; as the plain rules say, if it has none.
+    pub(crate) fn members_or<'m>(&'m self, plain: &'m MemberRules) -> &'m MemberRules
+        requires plain { rules_of plain.now ≡ plain_rules }
+        ensures { rules_of result.now ≡ spec.members_of self.now }
     {
         match self {
-            Source::Member(path) => path.as_slice(),
+            Source::Members { members, .. } | Source::Seen { members, .. } => members,
             Source::Database {
                 selection: Selection::Query(query),
                 ..
-            } => query.path.as_slice(),
+            } => &query.members,
+            _ => plain,
+        }
+    }
+
+    // The path of the member that has the rows, if they are JSON.
+    pub(crate) fn path(&self) -> &[String]
+        ensures { map string_bytes result.now ≡ (spec.members_of self.now).path }
+    {
+        match self {
+            Source::Members { members, .. } | Source::Seen { members, .. } => &members.path,
+            Source::Database {
+                selection: Selection::Query(query),
+                ..
+            } => &query.members.path,
             _ => &[],
         }
     }
@@ -149,7 +180,7 @@ impl Source {
         ensures { result ≡ spec.holds_database self.now bytes.now }
     {
         match self {
-            Source::Rows(_) | Source::Member(_) | Source::Values { .. } => false,
+            Source::Rows(_) | Source::Members { .. } | Source::Values { .. } => false,
             Source::Seen { .. } => is_database(bytes),
             Source::Database { .. } => true,
         }
@@ -161,9 +192,10 @@ impl Source {
     {
         match self {
             Source::Database { selection, .. } => Some(selection),
-            Source::Rows(_) | Source::Member(_) | Source::Values { .. } | Source::Seen { .. } => {
-                None
-            }
+            Source::Rows(_)
+            | Source::Members { .. }
+            | Source::Values { .. }
+            | Source::Seen { .. } => { None }
         }
     }
 
@@ -172,7 +204,7 @@ impl Source {
         ensures { result ≡ spec.log_of self.now }
     {
         match self {
-            Source::Rows(_) | Source::Member(_) | Source::Values { .. } => Log::Empty,
+            Source::Rows(_) | Source::Members { .. } | Source::Values { .. } => Log::Empty,
             Source::Seen { log, .. } => *log,
             Source::Database { log, .. } => *log,
         }
@@ -183,7 +215,7 @@ impl Source {
         ensures { self.new ≡ spec.with_log known self.old }
     {
         match self {
-            Source::Rows(_) | Source::Member(_) | Source::Values { .. } => {}
+            Source::Rows(_) | Source::Members { .. } | Source::Values { .. } => {}
             Source::Seen { log, .. } => *log = known,
             Source::Database { log, .. } => *log = known,
         }
@@ -197,7 +229,7 @@ impl Source {
             Source::Rows(Format::Separated(dialect)) => dialect.rows = wanted,
             Source::Values { rules } => *rules = wanted,
             Source::Seen { rules, .. } => *rules = wanted,
-            Source::Rows(_) | Source::Member(_) | Source::Database { .. } => {}
+            Source::Rows(_) | Source::Members { .. } | Source::Database { .. } => {}
         }
     }
 }

@@ -3,13 +3,15 @@
 ghost use Rattle.std.specs.Prelude.{◌≡◌, ◌<◌, ◌++◌, ◌∷◌, [], ℕ, List, None, Option, Some, map, option_map, take, false, true, Err, IfErr, IfOk, IfSome, OnOk};
 ghost use Rattle.std.specs.Io.KnownBytes.{Keeps};
 ghost use Rattle.csv.specs.Records.{fields_of};
+ghost use Rattle.ruled_json.specs.Rows.{rules_of};
+ghost use Rattle.ruled_json.specs.Streamed.{LineRules};
 ghost use Rattle.ruled_table.specs.Appended.{HasAppended};
 ghost use Rattle.ruled_table.specs.Plans.{Plan};
 ghost use Rattle.ruled_io.specs.Faults.{IsOfRead, but_line_in, is_failure, is_of_write};
 ghost use Rattle.ruled_io.specs.Output.{TellsWrite, failure_in, failure_of};
 ghost use Rattle.ruled_io.specs.Reading.{ReportsRead, Stands, read_failure, sound_rows, wrong_in};
 ghost use Rattle.ruled_io.specs.Steps.{EndsBelow, IsEnough, wrong_within};
-ghost use Rattle.ruled_io.specs.Stream.{Ends, StreamsAll, first_count, has_names, record_count};
+ghost use Rattle.ruled_io.specs.Stream.{Ends, StreamsAll, first_count, has_names, line_rules, record_count};
 ghost use Rattle.ruled_io.specs.declared.fault.ReadFault.{ReadFault};
 ghost use Rattle.ruled_io.specs.declared.fault.RunFault.{RunFault};
 ghost use Rattle.ruled_io.specs.declared.formats.Format.{Format};
@@ -24,6 +26,7 @@ use crate::program::Remarks;
 use crate::reader::Reading;
 use crate::request::Request;
 use csv::StringRecord;
+use ruled_json::MemberRules;
 use ruled_table::{Layout, Options, TableRows};
 use std::alloc::Global;
 use std::io::{Read, Write};
@@ -37,10 +40,10 @@ fn write_table<R: Read + Drop, W: Write + Drop>(
     pieces: &mut Pieces<R>,
     out: &mut Output<W>,
 ) -> Result<(), RunFault>
-    ensures ends { (options : Options) (plan : Plan) (format : Format) (records : ℕ) (all : List ℕ) (above : List (List (List ℕ)))
-        → Stands format records all (R.remaining pieces.old.input) (above ++ map fields_of rows.items) reading
+    ensures ends { (options : Options) (plan : Plan) (format : Format) (rules : LineRules) (all : List ℕ) (above : List (List (List ℕ)))
+        → Stands format rules all (R.remaining pieces.old.input) (above ++ map fields_of rows.items) reading
         → HasAppended options plan above table.entry
-        → EndsBelow options plan (sound_rows format records all) (wrong_in format records all) above (W.contents out.old.writer) (W.contents out.new.writer) result }
+        → EndsBelow options plan (sound_rows format rules all) (wrong_in format rules all) above (W.contents out.old.writer) (W.contents out.new.writer) result }
     ensures told { TellsWrite (failure_of out.old) (failure_of out.new) result }
     ensures noted { ReportsRead (read_failure pieces.new) result }
 {
@@ -66,9 +69,9 @@ pub(crate) fn read_first<R: Read + Drop>(
     pieces: &mut Pieces<R>,
     rows: &mut Vec<StringRecord>,
 ) -> Result<Reading, RunFault>
-    ensures given { (format : Format) (records : ℕ) (all : List ℕ)
-        → Stands format records all (R.remaining pieces.old.input) (map fields_of rows.old.items) reading
-        → IfOk result (Stands format records all (R.remaining pieces.new.input) (map fields_of rows.new.items)) }
+    ensures given { (format : Format) (rules : LineRules) (all : List ℕ)
+        → Stands format rules all (R.remaining pieces.old.input) (map fields_of rows.old.items) reading
+        → IfOk result (Stands format rules all (R.remaining pieces.new.input) (map fields_of rows.new.items)) }
     ensures enough { IfOk result (IsEnough count (map fields_of rows.new.items)) }
     ensures failed { IfErr result IsOfRead }
     ensures noted { ReportsRead (read_failure pieces.new) result }
@@ -107,9 +110,9 @@ fn show_table<R: Read + Drop, W: Write + Drop>(
     pieces: &mut Pieces<R>,
     out: &mut Output<W>,
 ) -> Result<Remarks, RunFault>
-    ensures ends { (format : Format) (records : ℕ) (all : List ℕ) → 0 < count → IsEnough count (map fields_of rows.items) reading
-        → Stands format records all (R.remaining pieces.old.input) (map fields_of rows.items) reading
-        → Ends options.now count (sound_rows format records all) (wrong_in format records all) (W.contents out.old.writer) (W.contents out.new.writer) result }
+    ensures ends { (format : Format) (rules : LineRules) (all : List ℕ) → 0 < count → IsEnough count (map fields_of rows.items) reading
+        → Stands format rules all (R.remaining pieces.old.input) (map fields_of rows.items) reading
+        → Ends options.now count (sound_rows format rules all) (wrong_in format rules all) (W.contents out.old.writer) (W.contents out.new.writer) result }
     ensures told { TellsWrite (failure_of out.old) (failure_of out.new) result }
     ensures noted { ReportsRead (read_failure pieces.new) result }
 {
@@ -159,24 +162,32 @@ fn first_count(options: &Options, format: Format, count: usize) -> usize
     }
 }
 
-// Shows the rows of an input in this format, of which these are the first bytes.
+// Shows the rows of an input in this format, of which these are the first bytes. The rules say how JSON is read.
 fn show_rows<R: Read + Drop, W: Write + Drop>(
     alloc: Global,
     options: &Options,
     format: Format,
+    members: &MemberRules,
     count: usize,
     front: &[u8],
     pieces: &mut Pieces<R>,
     out: &mut Output<W>,
 ) -> Result<Remarks, RunFault>
     ensures ends { (rest : List ℕ) → R.remaining pieces.old.input ≡ Some rest
-        → Ends options.now (first_count options.now format count) (sound_rows format (record_count count) (front.now ++ rest))
-        (wrong_in format (record_count count) (front.now ++ rest)) (W.contents out.old.writer) (W.contents out.new.writer) result }
+        → Ends options.now (first_count options.now format count) (sound_rows format (line_rules count (rules_of members.now)) (front.now ++ rest))
+        (wrong_in format (line_rules count (rules_of members.now)) (front.now ++ rest)) (W.contents out.old.writer) (W.contents out.new.writer) result }
     ensures told { TellsWrite (failure_of out.old) (failure_of out.new) result }
     ensures noted { ReportsRead (read_failure pieces.new) result }
 {
     let mut rows = Vec::new(alloc);
-    let reading = Reading::of_front(alloc, format, record_count(count), front, &mut rows)?;
+    let reading = Reading::of_front(
+        alloc,
+        format,
+        members,
+        record_count(count),
+        front,
+        &mut rows,
+    )?;
     let first = first_count(options, format, count);
     let reading = read_first(reading, first, pieces, &mut rows)?;
     show_table(alloc, options, first, reading, rows, pieces, out)
@@ -199,8 +210,19 @@ fn show_input<R: Read + Drop, W: Write + Drop>(
         return Err(RunFault::Input(InputFault::Stream(StreamedFault::Database)));
     }
     let format = format_streamed(request.source.known(), &front);
+    let plain = MemberRules::new(alloc);
+    let members = request.source.members_or(&plain);
     let content = content_of(format, &front);
-    show_rows(alloc, &request.view, format, count, content, pieces, out)
+    show_rows(
+        alloc,
+        &request.view,
+        format,
+        members,
+        count,
+        content,
+        pieces,
+        out,
+    )
 }
 
 // Flushes the output after its end, whatever the result is.

@@ -6,7 +6,7 @@ use Rattle.csv.specs.Reading.{strip_bom}
 use Rattle.ruled_json.specs.Faults.{first_line_fault, line_rows_fault, Tells, but_line}
 use Rattle.ruled_json.specs.Reading.{AppendsRest, HasLines, HasRead, without_front, Foretells, OnFault}
 use Rattle.ruled_json.specs.Rows.{line_rows_of, lines_of, records_on, table_of, columns_of, record_on, row_of, table_in}
-use Rattle.ruled_json.specs.Streamed.{ended_table, fault_behind, first_fault_behind, sound_line_rows, streamed_line_fault, streamed_table, ended_line_rows, ended_lines, first_columns, left_of, lines_above_fault}
+use Rattle.ruled_json.specs.Streamed.{LineRules, ended_table, fault_behind, first_fault_behind, sound_line_rows, streamed_line_fault, streamed_table, ended_line_rows, ended_lines, first_columns, left_of, lines_above_fault}
 use Rattle.ruled_json.specs.declared.fault.JsonFault.{JsonFault}
 use Rattle.ruled_json.specs.declared.line_table.LineTable.{LineTable}
 use Rattle.ruled_json.proofs.StreamedLines.{all-above, bad-line, few-records, same-fault, same-table}
@@ -27,7 +27,7 @@ texts lines = map (λ (line : Bor (List ℕ)). line.now) lines
 pub next-lines : (lines : List (Bor (List ℕ))) (i : ℕ) (d : Bor (List ℕ)) → i < length lines → texts (take (i + 1) lines) ≡ texts (take i lines) ++ (get_or lines i d).now ∷ []
 next-lines lines i d within = map_more (λ (line : Bor (List ℕ)). line.now) lines i d within
 
-pub next-rows : (k : ℕ) (lines : List (Bor (List ℕ))) (i : ℕ) (d : Bor (List ℕ)) (old new : List (List (List ℕ))) → i < length lines → old ≡ ended_table k (records_on (texts (take i lines)))
+pub next-rows : (k : LineRules) (lines : List (Bor (List ℕ))) (i : ℕ) (d : Bor (List ℕ)) (old new : List (List (List ℕ))) → i < length lines → old ≡ ended_table k (records_on (texts (take i lines)))
     → AppendsRest (ended_table k (records_on (texts (take i lines)))) (ended_table k (records_on (texts (take i lines) ++ (get_or lines i d).now ∷ []))) old new
     → new ≡ ended_table k (records_on (texts (take (i + 1) lines)))
 next-rows k lines i d old new within is rest =
@@ -45,14 +45,14 @@ few lines =
     omega arith
 
 -- as many records say columns as there are lines
-pub whole-fault : (k : ℕ) (lines : List (Bor (List ℕ))) (bytes : List ℕ) → k ≡ length lines → texts lines ≡ lines_of bytes → line_rows_fault bytes ≡ first_fault_behind k [] (texts lines)
+pub whole-fault : (k : LineRules) (lines : List (Bor (List ℕ))) (bytes : List ℕ) → k.records ≡ length lines → texts lines ≡ lines_of bytes → line_rows_fault bytes ≡ first_fault_behind k [] (texts lines)
 unfolding line_rows_fault
 whole-fault k lines bytes count are =
     let some : length (records_on (texts lines)) ≤ length lines = few lines in
-    let enough : length (records_on []) + length (records_on (texts lines)) ≤ k = omega arith in
+    let enough : length (records_on []) + length (records_on (texts lines)) ≤ k.records = omega arith in
     ap (first_line_fault 1) (sym are) ∙ sym (same-fault k [] (texts lines) enough)
 
-pub bad-at : (k : ℕ) (lines : List (Bor (List ℕ))) (i : ℕ) (d : Bor (List ℕ)) (t : LineTable) (fault : JsonFault) → i < length lines → HasLines k (texts (take i lines)) t
+pub bad-at : (k : LineRules) (lines : List (Bor (List ℕ))) (i : ℕ) (d : Bor (List ℕ)) (t : LineTable) (fault : JsonFault) → i < length lines → HasLines k (texts (take i lines)) t
     → fault_behind k (texts (take i lines)) (get_or lines i d).now ≡ Some fault → first_fault_behind k [] (texts lines) ≡ Some fault
 bad-at k lines i d t fault within has wrong =
     ap (first_fault_behind k []) (split-lines lines i d within)
@@ -61,53 +61,53 @@ bad-at k lines i d t fault within has wrong =
 pub all-texts : (lines : List (Bor (List ℕ))) (i : ℕ) → length lines ≤ i → texts (take i lines) ≡ texts lines
 all-texts lines i all = ap texts (take_all i lines all)
 
-pub whole-rows : (k : ℕ) (lines : List (Bor (List ℕ))) (bytes : List ℕ) (old new : List (List (List ℕ))) → k ≡ length lines → texts lines ≡ lines_of bytes
+pub whole-rows : (k : LineRules) (lines : List (Bor (List ℕ))) (bytes : List ℕ) (old new : List (List (List ℕ))) → k.records ≡ length lines → texts lines ≡ lines_of bytes
     → old ≡ ended_table k (records_on (texts lines))
-    → AppendsRest (ended_table k (records_on (texts lines))) (streamed_table k (records_on (texts lines))) old new → new ≡ line_rows_of bytes
+    → AppendsRest (ended_table k (records_on (texts lines))) (streamed_table k (records_on (texts lines))) old new → new ≡ line_rows_of k.members bytes
 unfolding line_rows_of
 whole-rows k lines bytes old new count are is rest =
     let some : length (records_on (texts lines)) ≤ length lines = few lines in
-    let enough : length (records_on (texts lines)) ≤ k = omega arith in
+    let enough : length (records_on (texts lines)) ≤ k.records = omega arith in
     rest.1 ∙ ap (λ (rows : List (List (List ℕ))). rows ++ rest.0) is ∙ rest.2 ∙ same-table k (records_on (texts lines)) enough
-    ∙ ap (λ (ls : List (List ℕ)). table_of (records_on ls)) are
+    ∙ ap (λ (ls : List (List ℕ)). table_of k.members.null_text (records_on ls)) are
 
 -- ---- laws
 
 -- Where no more records are there than say columns, the same is wrong as at once.
-pub fault-as-at-once : (records : ℕ) (bytes : List ℕ) → length (records_on (lines_of (strip_bom bytes))) ≤ records → streamed_line_fault records bytes ≡ line_rows_fault (strip_bom bytes)
+pub fault-as-at-once : (rules : LineRules) (bytes : List ℕ) → length (records_on (lines_of (strip_bom bytes))) ≤ rules.records → streamed_line_fault rules bytes ≡ line_rows_fault (strip_bom bytes)
 unfolding streamed_line_fault line_rows_fault
-fault-as-at-once records bytes few = same-fault records [] (lines_of (strip_bom bytes)) (omega arith)
+fault-as-at-once rules bytes few = same-fault rules [] (lines_of (strip_bom bytes)) (omega arith)
 
 -- And where nothing is, the rows are those that are read at once.
-pub as-at-once : (records : ℕ) (bytes : List ℕ) → streamed_line_fault records bytes ≡ None → length (records_on (lines_of (strip_bom bytes))) ≤ records
-    → sound_line_rows records bytes ≡ line_rows_of (strip_bom bytes)
+pub as-at-once : (rules : LineRules) (bytes : List ℕ) → streamed_line_fault rules bytes ≡ None → length (records_on (lines_of (strip_bom bytes))) ≤ rules.records
+    → sound_line_rows rules bytes ≡ line_rows_of rules.members (strip_bom bytes)
 unfolding streamed_line_fault sound_line_rows line_rows_of
-as-at-once records bytes none few =
-    ap (λ (lines : List (List ℕ)). streamed_table records (records_on lines)) (all-above records [] (lines_of (strip_bom bytes)) none)
-    ∙ same-table records (records_on (lines_of (strip_bom bytes))) few
+as-at-once rules bytes none few =
+    ap (λ (lines : List (List ℕ)). streamed_table rules (records_on lines)) (all-above rules [] (lines_of (strip_bom bytes)) none)
+    ∙ same-table rules (records_on (lines_of (strip_bom bytes))) few
 
 -- ---- the rows of what is read are a beginning of those of the whole input
 
-table-begins : (columns : List (List ℕ)) (above more : List Json) → (rows : List (List (List ℕ))) × (table_in columns (above ++ more) ≡ table_in columns above ++ rows)
-table-begins columns above more = elim (cases_Bool (length columns == 0)) [
+table-begins : (word : List ℕ) (columns : List (List ℕ)) (above more : List Json) → (rows : List (List (List ℕ))) × (table_in word columns (above ++ more) ≡ table_in word columns above ++ rows)
+table-begins word columns above more = elim (cases_Bool (length columns == 0)) [
   | inl none ↦ ([], rw none refl)
-  | inr some ↦ (map (row_of columns) more, rw some (ap (λ (rows : List (List (List ℕ))). columns ∷ rows) (map-append (row_of columns) above more)))
+  | inr some ↦ (map (row_of word columns) more, rw some (ap (λ (rows : List (List (List ℕ))). columns ∷ rows) (map-append (row_of word columns) above more)))
 ]
 
-ended-begins : (k : ℕ) (above more : List Json) → (rows : List (List (List ℕ))) × (streamed_table k (above ++ more) ≡ ended_table k above ++ rows)
+ended-begins : (k : LineRules) (above more : List Json) → (rows : List (List (List ℕ))) × (streamed_table k (above ++ more) ≡ ended_table k above ++ rows)
 ended-begins k above more = elim (cases_Bool (left_of k above == 0)) [
   | inl known ↦
       let left : left_of k above ≡ 0 = eqb-true (left_of k above) 0 known in
-      let columns : first_columns k (above ++ more) ≡ first_columns k above = ap columns_of (take-append-le k above more (omega arith)) in
-      let rest = table-begins (first_columns k above) above more in (
+      let columns : first_columns k (above ++ more) ≡ first_columns k above = ap columns_of (take-append-le k.records above more (omega arith)) in
+      let rest = table-begins k.members.null_text (first_columns k above) above more in (
         rest.0,
-        ap (λ (c : List (List ℕ)). table_in c (above ++ more)) columns ∙ rest.1
+        ap (λ (c : List (List ℕ)). table_in k.members.null_text c (above ++ more)) columns ∙ rest.1
             ∙ ap (λ (b : Bool). (if b then streamed_table k above else []) ++ rest.0) (sym known),
       )
   | inr unknown ↦ (streamed_table k (above ++ more), ap (λ (b : Bool). (if b then streamed_table k above else []) ++ streamed_table k (above ++ more)) (sym unknown))
 ]
 
-above-begins : (k : ℕ) (above lines : List (List ℕ)) → (more : List (List ℕ)) × (lines_above_fault k above lines ≡ above ++ more)
+above-begins : (k : LineRules) (above lines : List (List ℕ)) → (more : List (List ℕ)) × (lines_above_fault k above lines ≡ above ++ more)
 above-begins k above [] = ([], sym (append-nil above))
 above-begins k above (line ∷ lines) = elim (cases_Bool (is_none (fault_behind k above line))) [
   | inl sound ↦
@@ -117,18 +117,18 @@ above-begins k above (line ∷ lines) = elim (cases_Bool (is_none (fault_behind 
 ]
 
 -- Rows that were given with a beginning are a beginning of the rows above the first bad line, whatever follows.
-pub ended-sound : (records : ℕ) (before behind : List ℕ) (reader : LineReader) → HasRead records before reader
-    → (more : List (List (List ℕ))) × (sound_line_rows records (before ++ behind) ≡ ended_line_rows records before ++ more)
+pub ended-sound : (rules : LineRules) (before behind : List ℕ) (reader : LineReader) → HasRead rules before reader
+    → (more : List (List (List ℕ))) × (sound_line_rows rules (before ++ behind) ≡ ended_line_rows rules before ++ more)
 unfolding sound_line_rows ended_line_rows
-ended-sound records before behind reader has =
+ended-sound rules before behind reader has =
     let above = ended_lines before in
     let rest = lines_of (without_front reader.is_front (reader.line.items ++ behind)) in
-    let lines = above-begins records above rest in
-    let rows = ended-begins records (records_on above) (records_on lines.0) in (
+    let lines = above-begins rules above rest in
+    let rows = ended-begins rules (records_on above) (records_on lines.0) in (
       rows.0,
-      ap (λ (all : List (List ℕ)). streamed_table records (records_on (lines_above_fault records [] all))) (has.lines behind)
-          ∙ ap (λ (all : List (List ℕ)). streamed_table records (records_on all)) (has.table.above rest ∙ lines.1)
-          ∙ ap (streamed_table records) (filter_map-append record_on above lines.0) ∙ rows.1,
+      ap (λ (all : List (List ℕ)). streamed_table rules (records_on (lines_above_fault rules [] all))) (has.lines behind)
+          ∙ ap (λ (all : List (List ℕ)). streamed_table rules (records_on all)) (has.table.above rest ∙ lines.1)
+          ∙ ap (streamed_table rules) (filter_map-append record_on above lines.0) ∙ rows.1,
     )
 
 -- ---- what is said of a result, from what is said of another one

@@ -1,5 +1,5 @@
 -- Lines of JSON, one more behind those that are read, and in pieces of any length.
-use Rattle.std.proofs.Common.{◌≡◌, ◌∙◌, ◌∷◌, ◌++◌, ◌+◌, ◌<◌, ◌≤◌, ℕ, List, [], Option, None, Some, map, length, is_none, arith, Vec, Global, string_bytes, refl, sym, ap, subst, ◌-◌, ◌&&◌, Bool, true, false, take, inl, inr}
+use Rattle.std.proofs.Common.{◌≡◌, ◌∙◌, ◌∷◌, ◌++◌, ◌+◌, ◌<◌, ◌≤◌, ℕ, List, [], Option, None, Some, map, length, is_none, arith, Vec, Global, String, string_bytes, refl, sym, ap, subst, ◌-◌, ◌&&◌, Bool, true, false, take, inl, inr}
 use Rattle.std.specs.Prelude.{option_and_then, if◌then◌else◌, ◌==◌}
 use Rattle.std.specs.List.{cons_option}
 use Rattle.std.specs.Option.{option_or}
@@ -11,7 +11,7 @@ use Rattle.json.specs.Json.{Json}
 use Rattle.ruled_json.specs.Faults.{first_line_fault, line_after, line_fault}
 use Rattle.ruled_json.specs.Reading.{AppendsRest, HasLines, HasRecords, columns_in, padded, HasRead, NoFeed, without_front}
 use Rattle.ruled_json.specs.Rows.{columns_of, record_on, records_on, row_of, table_in, table_of, lines_of}
-use Rattle.ruled_json.specs.Streamed.{ended_table, fault_behind, first_fault_behind, late_fault, lines_above_fault, number_behind, streamed_table, all_but_last, ended_line_rows, ended_lines, sound_line_rows, streamed_line_fault}
+use Rattle.ruled_json.specs.Streamed.{LineRules, ended_table, fault_behind, first_fault_behind, late_fault, lines_above_fault, number_behind, streamed_table, all_but_last, ended_line_rows, ended_lines, sound_line_rows, streamed_line_fault}
 use Rattle.ruled_json.specs.declared.fault.JsonFault.{JsonFault}
 use Rattle.ruled_json.specs.declared.line_table.LineTable.{LineTable}
 use Rattle.ruled_json.specs.declared.member_names.MemberNames.{MemberNames}
@@ -32,14 +32,14 @@ pub number-more : (lines : List (List ℕ)) (line : List ℕ) → number_behind 
 number-more lines line = fold-append line_after 1 lines (line ∷ [])
 
 -- a sound line more
-pub right-more : (k : ℕ) (lines : List (List ℕ)) (line : List ℕ) → fault_behind k lines line ≡ None
+pub right-more : (k : LineRules) (lines : List (List ℕ)) (line : List ℕ) → fault_behind k lines line ≡ None
     → ((behind : List (List ℕ)) → first_fault_behind k [] (lines ++ behind) ≡ first_fault_behind k lines behind)
     → (behind : List (List ℕ)) → first_fault_behind k [] ((lines ++ line ∷ []) ++ behind) ≡ first_fault_behind k (lines ++ line ∷ []) behind
 right-more k lines line none right behind =
     ap (first_fault_behind k []) (append_assoc lines (line ∷ []) behind) ∙ right (line ∷ behind)
     ∙ ap (λ (fault : Option JsonFault). option_or fault (first_fault_behind k (lines ++ line ∷ []) behind)) none
 
-pub above-more : (k : ℕ) (lines : List (List ℕ)) (line : List ℕ) → fault_behind k lines line ≡ None
+pub above-more : (k : LineRules) (lines : List (List ℕ)) (line : List ℕ) → fault_behind k lines line ≡ None
     → ((behind : List (List ℕ)) → lines_above_fault k [] (lines ++ behind) ≡ lines_above_fault k lines behind)
     → (behind : List (List ℕ)) → lines_above_fault k [] ((lines ++ line ∷ []) ++ behind) ≡ lines_above_fault k (lines ++ line ∷ []) behind
 above-more k lines line none above behind =
@@ -47,20 +47,22 @@ above-more k lines line none above behind =
     ∙ ap (λ (fault : Option JsonFault). if is_none fault then lines_above_fault k (lines ++ line ∷ []) behind else lines) none
 
 -- what is had of records doesn't rest on the line's number
-pub same-records : (k : ℕ) (above : List Json) (t new : LineTable) → HasRecords k above t → new.left ≡ t.left → new.names ≡ t.names → new.held ≡ t.held → HasRecords k above new
-same-records k above t new has left names held =
+pub same-records : (k : LineRules) (above : List Json) (t new : LineTable) → HasRecords k above t → new.left ≡ t.left → new.names ≡ t.names → new.held ≡ t.held → new.null ≡ t.null → HasRecords k above new
+same-records k above t new has left names held null =
     let columns : columns_in new ≡ columns_in t = ap (λ (n : MemberNames). map string_bytes n.names.keys) names in
     record {
       left = left ∙ has.left;
       columns = columns ∙ has.columns;
+      null_text = ap string_bytes null ∙ has.null_text;
       held = λ some.
           ap (λ (c : List (List ℕ)). map (padded (length c)) (map fields_of new.held.items)) columns
           ∙ ap (λ (rows : Vec Row Global). map (padded (length (columns_in t))) (map fields_of rows.items)) held
-          ∙ has.held (subst (λ (n : ℕ). 0 < n) left some) ∙ ap (λ (c : List (List ℕ)). map (row_of c) above) (sym columns);
+          ∙ has.held (subst (λ (n : ℕ). 0 < n) left some) ∙ ap (λ (c : List (List ℕ)). map (row_of (string_bytes t.null) c) above) (sym columns)
+          ∙ ap (λ (text : String Global). map (row_of (string_bytes text) (columns_in new)) above) (sym null);
     }
 
 -- a table with a sound line more
-pub lines-more : (k : ℕ) (lines : List (List ℕ)) (line : List ℕ) (t new : LineTable) → HasLines k lines t → fault_behind k lines line ≡ None
+pub lines-more : (k : LineRules) (lines : List (List ℕ)) (line : List ℕ) (t new : LineTable) → HasLines k lines t → fault_behind k lines line ≡ None
     → HasRecords k (records_on (lines ++ line ∷ [])) new → new.number ≡ line_after t.number line → HasLines k (lines ++ line ∷ []) new
 lines-more k lines line t new has none records number = record {
   has = records;
@@ -69,60 +71,60 @@ lines-more k lines line t new has none records number = record {
   above = above-more k lines line none has.above;
 }
 
-pub with-record : (k : ℕ) (lines : List (List ℕ)) (line : List ℕ) (v : Json) (new : LineTable) → Some v ≡ record_on line → HasRecords k (records_on lines ++ v ∷ []) new
+pub with-record : (k : LineRules) (lines : List (List ℕ)) (line : List ℕ) (v : Json) (new : LineTable) → Some v ≡ record_on line → HasRecords k (records_on lines ++ v ∷ []) new
     → HasRecords k (records_on (lines ++ line ∷ [])) new
 with-record k lines line v new is has = subst (λ (rs : List Json). HasRecords k rs new) (sym (records-more lines line (Some v) is)) has
 
 pub no-record : (lines : List (List ℕ)) (line : List ℕ) → None ≡ record_on line → records_on (lines ++ line ∷ []) ≡ records_on lines
 no-record lines line is = records-more lines line None is ∙ append-nil (records_on lines)
 
-pub without-record : (k : ℕ) (lines : List (List ℕ)) (line : List ℕ) (t new : LineTable) → None ≡ record_on line → HasRecords k (records_on lines) t
-    → new.left ≡ t.left → new.names ≡ t.names → new.held ≡ t.held → HasRecords k (records_on (lines ++ line ∷ [])) new
-without-record k lines line t new is has left names held =
-    subst (λ (rs : List Json). HasRecords k rs new) (sym (no-record lines line is)) (same-records k (records_on lines) t new has left names held)
+pub without-record : (k : LineRules) (lines : List (List ℕ)) (line : List ℕ) (t new : LineTable) → None ≡ record_on line → HasRecords k (records_on lines) t
+    → new.left ≡ t.left → new.names ≡ t.names → new.held ≡ t.held → new.null ≡ t.null → HasRecords k (records_on (lines ++ line ∷ [])) new
+without-record k lines line t new is has left names held null =
+    subst (λ (rs : List Json). HasRecords k rs new) (sym (no-record lines line is)) (same-records k (records_on lines) t new has left names held null)
 
-pub with-rows : (k : ℕ) (lines : List (List ℕ)) (line : List ℕ) (v : Json) (old new : List (List (List ℕ))) → Some v ≡ record_on line
+pub with-rows : (k : LineRules) (lines : List (List ℕ)) (line : List ℕ) (v : Json) (old new : List (List (List ℕ))) → Some v ≡ record_on line
     → AppendsRest (ended_table k (records_on lines)) (ended_table k (records_on lines ++ v ∷ [])) old new
     → AppendsRest (ended_table k (records_on lines)) (ended_table k (records_on (lines ++ line ∷ []))) old new
 with-rows k lines line v old new is rest = (rest.0, rest.1, rest.2 ∙ ap (ended_table k) (sym (records-more lines line (Some v) is)))
 
-pub no-rows : (k : ℕ) (lines : List (List ℕ)) (line : List ℕ) (old : List (List (List ℕ))) → None ≡ record_on line
+pub no-rows : (k : LineRules) (lines : List (List ℕ)) (line : List ℕ) (old : List (List (List ℕ))) → None ≡ record_on line
     → AppendsRest (ended_table k (records_on lines)) (ended_table k (records_on (lines ++ line ∷ []))) old old
 no-rows k lines line old is = ([], sym (append-nil old), append-nil (ended_table k (records_on lines)) ∙ ap (ended_table k) (sym (no-record lines line is)))
 
 -- where no line is left
-pub all-right : (k : ℕ) (lines : List (List ℕ)) (t : LineTable) → HasLines k lines t → first_fault_behind k [] lines ≡ None
+pub all-right : (k : LineRules) (lines : List (List ℕ)) (t : LineTable) → HasLines k lines t → first_fault_behind k [] lines ≡ None
 all-right k lines t has = ap (first_fault_behind k []) (sym (append-nil lines)) ∙ has.right []
 
-pub all-lines : (k : ℕ) (lines : List (List ℕ)) (t : LineTable) → HasLines k lines t → lines_above_fault k [] lines ≡ lines
+pub all-lines : (k : LineRules) (lines : List (List ℕ)) (t : LineTable) → HasLines k lines t → lines_above_fault k [] lines ≡ lines
 all-lines k lines t has = ap (lines_above_fault k []) (sym (append-nil lines)) ∙ has.above []
 
 -- what is wrong, and the lines above it, where a line is bad
-pub bad-line : (k : ℕ) (lines behind : List (List ℕ)) (line : List ℕ) (t : LineTable) (fault : JsonFault) → HasLines k lines t → fault_behind k lines line ≡ Some fault
+pub bad-line : (k : LineRules) (lines behind : List (List ℕ)) (line : List ℕ) (t : LineTable) (fault : JsonFault) → HasLines k lines t → fault_behind k lines line ≡ Some fault
     → first_fault_behind k [] (lines ++ line ∷ behind) ≡ Some fault
 bad-line k lines behind line t fault has wrong =
     has.right (line ∷ behind) ∙ ap (λ (found : Option JsonFault). option_or found (first_fault_behind k (lines ++ line ∷ []) behind)) wrong
 
-pub lines-above : (k : ℕ) (lines behind : List (List ℕ)) (line : List ℕ) (t : LineTable) (fault : JsonFault) → HasLines k lines t → fault_behind k lines line ≡ Some fault
+pub lines-above : (k : LineRules) (lines behind : List (List ℕ)) (line : List ℕ) (t : LineTable) (fault : JsonFault) → HasLines k lines t → fault_behind k lines line ≡ Some fault
     → lines_above_fault k [] (lines ++ line ∷ behind) ≡ lines
 lines-above k lines behind line t fault has wrong =
     has.above (line ∷ behind) ∙ ap (λ (found : Option JsonFault). if is_none found then lines_above_fault k (lines ++ line ∷ []) behind else lines) wrong
 
 -- what is wrong with a line, by what is found on it
-pub blank-sound : (k n : ℕ) (lines : List (List ℕ)) (line : List ℕ) → n ≡ number_behind lines → line_fault n line ≡ None → None ≡ record_on line → fault_behind k lines line ≡ None
+pub blank-sound : (k : LineRules) (n : ℕ) (lines : List (List ℕ)) (line : List ℕ) → n ≡ number_behind lines → line_fault n line ≡ None → None ≡ record_on line → fault_behind k lines line ≡ None
 blank-sound k n lines line at none blank =
     let here : line_fault (number_behind lines) line ≡ None = ap (λ (m : ℕ). line_fault m line) (sym at) ∙ none in
     ap (λ (fault : Option JsonFault). option_or fault (option_and_then (late_fault k (records_on lines) (number_behind lines)) (record_on line))) here
     ∙ ap (option_and_then (late_fault k (records_on lines) (number_behind lines))) (sym blank)
 
-pub record-fault : (k n : ℕ) (lines : List (List ℕ)) (line : List ℕ) (v : Json) → n ≡ number_behind lines → line_fault n line ≡ None → Some v ≡ record_on line
+pub record-fault : (k : LineRules) (n : ℕ) (lines : List (List ℕ)) (line : List ℕ) (v : Json) → n ≡ number_behind lines → line_fault n line ≡ None → Some v ≡ record_on line
     → fault_behind k lines line ≡ late_fault k (records_on lines) n v
 record-fault k n lines line v at none is =
     let here : line_fault (number_behind lines) line ≡ None = ap (λ (m : ℕ). line_fault m line) (sym at) ∙ none in
     ap (λ (fault : Option JsonFault). option_or fault (option_and_then (late_fault k (records_on lines) (number_behind lines)) (record_on line))) here
     ∙ ap (option_and_then (late_fault k (records_on lines) (number_behind lines))) (sym is) ∙ ap (λ (m : ℕ). late_fault k (records_on lines) m v) (sym at)
 
-pub line-bad : (k n : ℕ) (lines : List (List ℕ)) (line : List ℕ) (fault : JsonFault) → n ≡ number_behind lines → line_fault n line ≡ Some fault → fault_behind k lines line ≡ Some fault
+pub line-bad : (k : LineRules) (n : ℕ) (lines : List (List ℕ)) (line : List ℕ) (fault : JsonFault) → n ≡ number_behind lines → line_fault n line ≡ Some fault → fault_behind k lines line ≡ Some fault
 line-bad k n lines line fault at wrong =
     let here : line_fault (number_behind lines) line ≡ Some fault = ap (λ (m : ℕ). line_fault m line) (sym at) ∙ wrong in
     ap (λ (found : Option JsonFault). option_or found (option_and_then (late_fault k (records_on lines) (number_behind lines)) (record_on line))) here
@@ -157,7 +159,7 @@ or-none : {X : Type 0} (found : Option X) → option_or found None ≡ found
 or-none None = refl
 or-none (Some x) = refl
 
-same-here : (k : ℕ) (above : List (List ℕ)) (line : List ℕ) (found : Option Json) → found ≡ record_on line → length (records_on above) + length (cons_option found []) ≤ k
+same-here : (k : LineRules) (above : List (List ℕ)) (line : List ℕ) (found : Option Json) → found ≡ record_on line → length (records_on above) + length (cons_option found []) ≤ k.records
     → fault_behind k above line ≡ line_fault (number_behind above) line
 same-here k above line None is fits =
     ap (λ (v : Option Json). option_or (line_fault (number_behind above) line) (option_and_then (late_fault k (records_on above) (number_behind above)) v)) (sym is)
@@ -170,24 +172,24 @@ both-none : (first second : Option JsonFault) → option_or first second ≡ Non
 both-none None second e = (refl, e)
 both-none (Some fault) second e = absurd (cc)
 
-pub same-fault : (k : ℕ) (above lines : List (List ℕ)) → length (records_on above) + length (records_on lines) ≤ k → first_fault_behind k above lines ≡ first_line_fault (number_behind above) lines
+pub same-fault : (k : LineRules) (above lines : List (List ℕ)) → length (records_on above) + length (records_on lines) ≤ k.records → first_fault_behind k above lines ≡ first_line_fault (number_behind above) lines
 same-fault k above [] enough = refl
 same-fault k above (line ∷ lines) enough =
     let n : ℕ = number_behind above in
     let later : first_fault_behind k (above ++ line ∷ []) lines ≡ first_line_fault (line_after n line) lines =
-    same-fault k (above ++ line ∷ []) lines (moved above line lines k enough) ∙ ap (λ (m : ℕ). first_line_fault m lines) (number-more above line) in
-    ap (λ (fault : Option JsonFault). option_or fault (first_fault_behind k (above ++ line ∷ []) lines)) (same-here k above line (record_on line) refl (record-fits k above line lines enough))
+    same-fault k (above ++ line ∷ []) lines (moved above line lines k.records enough) ∙ ap (λ (m : ℕ). first_line_fault m lines) (number-more above line) in
+    ap (λ (fault : Option JsonFault). option_or fault (first_fault_behind k (above ++ line ∷ []) lines)) (same-here k above line (record_on line) refl (record-fits k.records above line lines enough))
     ∙ ap (option_or (line_fault n line)) later
 
-pub all-above : (k : ℕ) (above lines : List (List ℕ)) → first_fault_behind k above lines ≡ None → lines_above_fault k above lines ≡ above ++ lines
+pub all-above : (k : LineRules) (above lines : List (List ℕ)) → first_fault_behind k above lines ≡ None → lines_above_fault k above lines ≡ above ++ lines
 all-above k above [] none = sym (append-nil above)
 all-above k above (line ∷ lines) none =
     let parts = both-none (fault_behind k above line) (first_fault_behind k (above ++ line ∷ []) lines) none in
     ap (λ (fault : Option JsonFault). if is_none fault then lines_above_fault k (above ++ line ∷ []) lines else above) parts.0 ∙ all-above k (above ++ line ∷ []) lines parts.1 ∙ append_assoc above (line ∷ []) lines
 
 -- records that are no more than say columns are a table as at once
-pub same-table : (k : ℕ) (records : List Json) → length records ≤ k → streamed_table k records ≡ table_of records
-same-table k records few = ap (λ (first : List Json). table_in (columns_of first) records) (take_all k records few)
+pub same-table : (k : LineRules) (records : List Json) → length records ≤ k.records → streamed_table k records ≡ table_of k.members.null_text records
+same-table k records few = ap (λ (first : List Json). table_in k.members.null_text (columns_of first) records) (take_all k.records records few)
 
 -- ---- the bytes of lines, of which some are read
 
@@ -262,7 +264,7 @@ parted before done bytes rest line behind more is parts =
 
 -- ---- a line that a line feed ends
 
-module _ (k : ℕ) (before bytes text : List ℕ) (reader : LineReader) (has : HasRead k before reader) (is : text ≡ reader.line.items ++ bytes) (within : NoFeed bytes) where
+module _ (k : LineRules) (before bytes text : List ℕ) (reader : LineReader) (has : HasRead k before reader) (is : text ≡ reader.line.items ++ bytes) (within : NoFeed bytes) where
   line-within : NoFeed text
   line-within = subst NoFeed (sym is) (All-append (λ (byte : ℕ). is_feed byte ≡ false) reader.line.items bytes has.within within)
 
@@ -314,7 +316,7 @@ module _ (k : ℕ) (before bytes text : List ℕ) (reader : LineReader) (has : H
 
 -- ---- the bytes behind the last line feed
 
-pub fresh : (k : ℕ) (reader : LineReader) → HasLines k [] reader.table → reader.line.items ≡ [] → reader.is_front ≡ true → HasRead k [] reader
+pub fresh : (k : LineRules) (reader : LineReader) → HasLines k [] reader.table → reader.line.items ≡ [] → reader.is_front ≡ true → HasRead k [] reader
 unfolding ended_lines strip_bom
 fresh k reader table empty front = record {
   table = table;
@@ -324,7 +326,7 @@ fresh k reader table empty front = record {
 }
 
 -- more bytes with no line feed end no line
-module _ (k : ℕ) (before bytes : List ℕ) (reader : LineReader) (has : HasRead k before reader) (within : NoFeed bytes) where
+module _ (k : LineRules) (before bytes : List ℕ) (reader : LineReader) (has : HasRead k before reader) (within : NoFeed bytes) where
   all-within : NoFeed (reader.line.items ++ bytes)
   all-within = All-append (λ (byte : ℕ). is_feed byte ≡ false) reader.line.items bytes has.within within
 
@@ -356,7 +358,7 @@ module _ (k : ℕ) (before bytes : List ℕ) (reader : LineReader) (has : HasRea
 
 -- ---- the last line
 
-module _ (k : ℕ) (bytes : List ℕ) (reader : LineReader) (has : HasRead k bytes reader) where
+module _ (k : LineRules) (bytes : List ℕ) (reader : LineReader) (has : HasRead k bytes reader) where
   last-line : lines_of (strip_bom bytes) ≡ ended_lines bytes ++ without_front reader.is_front reader.line.items ∷ []
   last-line =
       ap (λ (all : List ℕ). lines_of (strip_bom all)) (sym (append-nil bytes)) ∙ has.lines []

@@ -1,5 +1,5 @@
 -- The table of records: members by their names, and rows whose columns grow behind them.
-use Rattle.std.proofs.Common.{◌≡◌, ◌∙◌, ◌∷◌, ◌++◌, ◌+◌, ◌-◌, ◌≤◌, ◌&&◌, ◌||◌, ℕ, List, [], All, Bool, true, false, Option, None, Some, map, fold, length, replicate, inl, inr, arith, subst, refl, sym, ap, cond, zero-add, ◌<◌, take, get_or, String, string_bytes, option_map}
+use Rattle.std.proofs.Common.{◌≡◌, ◌∙◌, ◌∷◌, ◌++◌, ◌+◌, ◌-◌, ◌≤◌, ◌&&◌, ◌||◌, ℕ, List, [], All, Bool, true, false, Option, None, Some, map, fold, length, replicate, inl, inr, arith, subst, refl, sym, ap, cond, zero-add, ◌<◌, take, get_or, Global, String, string_bytes, option_map}
 use Rattle.std.specs.List.{flat_map, list_all, list_any}
 use Rattle.std.specs.Str.{bytes_eq}
 use Rattle.std.proofs.lemmas.Bool.{and_parts, cases_Bool}
@@ -21,7 +21,7 @@ use Rattle.json.specs.Value.{members_view, value_view}
 use Rattle.json.specs.declared.value.Value.{Value}
 use Rattle.std.proofs.lemmas.Bool.Decides.{nat_tests}
 use Rattle.csv.specs.Records.{fields_of}
-use Rattle.ruled_json.specs.Streamed.{ended_table, first_columns, late_fault, left_of, streamed_table}
+use Rattle.ruled_json.specs.Streamed.{LineRules, ended_table, first_columns, late_fault, left_of, streamed_table}
 use Rattle.ruled_json.specs.declared.line_table.LineTable.{LineTable}
 use Rattle.ruled_json.specs.declared.fault.JsonFault.{JsonFault}
 use Rattle.ruled_json.specs.declared.fault.JsonFault.TheVariants.{NoColumn}
@@ -139,17 +139,17 @@ absent-name columns (string s) name h absent = refl
 absent-name columns (array js) name h absent = refl
 absent-name columns (object ms) name h absent = absent-member columns ms name h absent
 
-empty-cells : (columns more : List (List ℕ)) (value : Json) → has_all columns value ≡ true → All (λ (n : List ℕ). has columns n ≡ false) more → row_of more value ≡ replicate (length more) []
-empty-cells columns [] value h others = refl
-empty-cells columns (name ∷ more) value h others =
+empty-cells : (word : List ℕ) (columns more : List (List ℕ)) (value : Json) → has_all columns value ≡ true → All (λ (n : List ℕ). has columns n ≡ false) more → row_of word more value ≡ replicate (length more) []
+empty-cells word columns [] value h others = refl
+empty-cells word columns (name ∷ more) value h others =
     let none : get name value ≡ None = absent-name columns value name h (All-head (λ (n : List ℕ). has columns n ≡ false) name more others) in
-    ap (λ (found : Option Json). cell_text found ∷ row_of more value) none
-    ∙ ap (λ (row : List (List ℕ)). [] ∷ row) (empty-cells columns more value h (All-tail (λ (n : List ℕ). has columns n ≡ false) name more others))
+    ap (λ (found : Option Json). cell_text word found ∷ row_of word more value) none
+    ∙ ap (λ (row : List (List ℕ)). [] ∷ row) (empty-cells word columns more value h (All-tail (λ (n : List ℕ). has columns n ≡ false) name more others))
 
-row-grows : (columns more : List (List ℕ)) (value : Json) → has_all columns value ≡ true → All (λ (n : List ℕ). has columns n ≡ false) more
-    → row_of (columns ++ more) value ≡ row_of columns value ++ replicate (length more) []
-row-grows columns more value h others =
-    map-append (λ (column : List ℕ). cell_text (get column value)) columns more ∙ ap (λ (row : List (List ℕ)). row_of columns value ++ row) (empty-cells columns more value h others)
+row-grows : (word : List ℕ) (columns more : List (List ℕ)) (value : Json) → has_all columns value ≡ true → All (λ (n : List ℕ). has columns n ≡ false) more
+    → row_of word (columns ++ more) value ≡ row_of word columns value ++ replicate (length more) []
+row-grows word columns more value h others =
+    map-append (λ (column : List ℕ). cell_text word (get column value)) columns more ∙ ap (λ (row : List (List ℕ)). row_of word columns value ++ row) (empty-cells word columns more value h others)
 
 length-padded : (n : ℕ) (row : List (List ℕ)) → length (padded n row) ≡ length row + (n - length row)
 length-padded n row = length-append row (replicate (n - length row) []) ∙ ap (λ (k : ℕ). length row + k) (length-replicate (n - length row) [])
@@ -161,44 +161,44 @@ full-row n row long =
     ap (λ (k : ℕ). row ++ replicate k []) none ∙ append-nil row
 
 -- a row in columns that grow has more empty cells behind it
-padded-grows : (columns more row : List (List ℕ)) (value : Json) → has_all columns value ≡ true → All (λ (n : List ℕ). has columns n ≡ false) more
-    → padded (length columns) row ≡ row_of columns value → padded (length (columns ++ more)) row ≡ row_of (columns ++ more) value
-padded-grows columns more row value h others is =
+padded-grows : (word : List ℕ) (columns more row : List (List ℕ)) (value : Json) → has_all columns value ≡ true → All (λ (n : List ℕ). has columns n ≡ false) more
+    → padded (length columns) row ≡ row_of word columns value → padded (length (columns ++ more)) row ≡ row_of word (columns ++ more) value
+padded-grows word columns more row value h others is =
     let a : ℕ = length row in
     let b : ℕ = length columns in
     let k : ℕ = length more in
-    let sizes : a + (b - a) ≡ b = sym (length-padded b row) ∙ ap (λ (r : List (List ℕ)). length r) is ∙ length-map columns (λ (column : List ℕ). cell_text (get column value)) in
+    let sizes : a + (b - a) ≡ b = sym (length-padded b row) ∙ ap (λ (r : List (List ℕ)). length r) is ∙ length-map columns (λ (column : List ℕ). cell_text word (get column value)) in
     let count : length (columns ++ more) - a ≡ (b - a) + k = ap (λ (n : ℕ). n - a) (length-append columns more) ∙ omega arith in
     ap (λ (n : ℕ). row ++ replicate n []) count ∙ ap (λ (cells : List (List ℕ)). row ++ cells) (sym (replicate-append-replicate (b - a) k []))
-    ∙ sym (append_assoc row (replicate (b - a) []) (replicate k [])) ∙ ap (λ (r : List (List ℕ)). r ++ replicate k []) is ∙ sym (row-grows columns more value h others)
+    ∙ sym (append_assoc row (replicate (b - a) []) (replicate k [])) ∙ ap (λ (r : List (List ℕ)). r ++ replicate k []) is ∙ sym (row-grows word columns more value h others)
 
-each-grows : (columns more : List (List ℕ)) (rows : List (List (List ℕ))) (records : List Json) → All (λ (v : Json). has_all columns v ≡ true) records
-    → All (λ (n : List ℕ). has columns n ≡ false) more → map (padded (length columns)) rows ≡ map (row_of columns) records
-    → map (padded (length (columns ++ more))) rows ≡ map (row_of (columns ++ more)) records
-each-grows columns more [] [] h others is = refl
-each-grows columns more [] (v ∷ records) h others is = absurd (cc)
-each-grows columns more (row ∷ rows) [] h others is = absurd (cc)
-each-grows columns more (row ∷ rows) (v ∷ records) h others is =
-    let first : padded (length columns) row ≡ row_of columns v = cc in
-    let rest : map (padded (length columns)) rows ≡ map (row_of columns) records = cc in
-    let here = padded-grows columns more row v (All-head (λ (w : Json). has_all columns w ≡ true) v records h) others first in
-    let later = each-grows columns more rows records (All-tail (λ (w : Json). has_all columns w ≡ true) v records h) others rest in
-    ap (λ (r : List (List ℕ)). r ∷ map (padded (length (columns ++ more))) rows) here ∙ ap (λ (rs : List (List (List ℕ))). row_of (columns ++ more) v ∷ rs) later
+each-grows : (word : List ℕ) (columns more : List (List ℕ)) (rows : List (List (List ℕ))) (records : List Json) → All (λ (v : Json). has_all columns v ≡ true) records
+    → All (λ (n : List ℕ). has columns n ≡ false) more → map (padded (length columns)) rows ≡ map (row_of word columns) records
+    → map (padded (length (columns ++ more))) rows ≡ map (row_of word (columns ++ more)) records
+each-grows word columns more [] [] h others is = refl
+each-grows word columns more [] (v ∷ records) h others is = absurd (cc)
+each-grows word columns more (row ∷ rows) [] h others is = absurd (cc)
+each-grows word columns more (row ∷ rows) (v ∷ records) h others is =
+    let first : padded (length columns) row ≡ row_of word columns v = cc in
+    let rest : map (padded (length columns)) rows ≡ map (row_of word columns) records = cc in
+    let here = padded-grows word columns more row v (All-head (λ (w : Json). has_all columns w ≡ true) v records h) others first in
+    let later = each-grows word columns more rows records (All-tail (λ (w : Json). has_all columns w ≡ true) v records h) others rest in
+    ap (λ (r : List (List ℕ)). r ∷ map (padded (length (columns ++ more))) rows) here ∙ ap (λ (rs : List (List (List ℕ))). row_of word (columns ++ more) v ∷ rs) later
 
 -- the rows that are held, where one record more says columns
-pub held-more : (columns new : List (List ℕ)) (rows : List (List (List ℕ))) (above : List Json) (value : Json) → columns ≡ columns_of above
-    → new ≡ fold with_name columns (names_in value) → map (padded (length columns)) rows ≡ map (row_of columns) above
-    → map (padded (length new)) (rows ++ row_of new value ∷ []) ≡ map (row_of new) (above ++ value ∷ [])
-held-more columns new rows above value are grow is =
+pub held-more : (word : List ℕ) (columns new : List (List ℕ)) (rows : List (List (List ℕ))) (above : List Json) (value : Json) → columns ≡ columns_of above
+    → new ≡ fold with_name columns (names_in value) → map (padded (length columns)) rows ≡ map (row_of word columns) above
+    → map (padded (length new)) (rows ++ row_of word new value ∷ []) ≡ map (row_of word new) (above ++ value ∷ [])
+held-more word columns new rows above value are grow is =
     let more : Grown columns (fold with_name columns (names_in value)) = grown columns (names_in value) in
     let named : new ≡ columns ++ more.more = grow ∙ more.is in
     let known : All (λ (v : Json). has_all columns v ≡ true) above = subst (λ (c : List (List ℕ)). All (λ (v : Json). has_all c v ≡ true) above) (sym are) (columns-have above) in
-    let old : map (padded (length new)) rows ≡ map (row_of new) above =
-    subst (λ (c : List (List ℕ)). map (padded (length c)) rows ≡ map (row_of c) above) (sym named) (each-grows columns more.more rows above known more.others is) in
-    let last : padded (length new) (row_of new value) ≡ row_of new value =
-    full-row (length new) (row_of new value) (omega (arith, length-map new (λ (column : List ℕ). cell_text (get column value)))) in
-    map-append (padded (length new)) rows (row_of new value ∷ []) ∙ ap (λ (rs : List (List (List ℕ))). rs ++ padded (length new) (row_of new value) ∷ []) old
-    ∙ ap (λ (r : List (List ℕ)). map (row_of new) above ++ r ∷ []) last ∙ sym (map-append (row_of new) above (value ∷ []))
+    let old : map (padded (length new)) rows ≡ map (row_of word new) above =
+    subst (λ (c : List (List ℕ)). map (padded (length c)) rows ≡ map (row_of word c) above) (sym named) (each-grows word columns more.more rows above known more.others is) in
+    let last : padded (length new) (row_of word new value) ≡ row_of word new value =
+    full-row (length new) (row_of word new value) (omega (arith, length-map new (λ (column : List ℕ). cell_text word (get column value)))) in
+    map-append (padded (length new)) rows (row_of word new value ∷ []) ∙ ap (λ (rs : List (List (List ℕ))). rs ++ padded (length new) (row_of word new value) ∷ []) old
+    ∙ ap (λ (r : List (List ℕ)). map (row_of word new) above ++ r ∷ []) last ∙ sym (map-append (row_of word new) above (value ∷ []))
 
 -- ---- walks over lists, one element more
 
@@ -220,11 +220,11 @@ columns_more values more =
     ap (fold with_name []) (flat_map-append names_in values more) ∙ fold-append with_name [] (flat_map names_in values) (flat_map names_in more)
 
 -- the row of a record, of the names as texts
-pub whole_row : {Z : Type 0} (names items : List (String Z)) (value : Json) (n : ℕ) (row : List (List ℕ)) → items ≡ names → length items ≤ n
-    → row ≡ map (λ (name : String Z). cell_text (get (string_bytes name) value)) (take n items) → row ≡ row_of (map string_bytes names) value
-whole_row {Z} names items value n row same all made =
-    made ∙ ap (map (λ (name : String Z). cell_text (get (string_bytes name) value))) (take_all n items all ∙ same)
-    ∙ sym (map-map (λ (column : List ℕ). cell_text (get column value)) string_bytes names)
+pub whole_row : {Z : Type 0} (word : List ℕ) (names items : List (String Z)) (value : Json) (n : ℕ) (row : List (List ℕ)) → items ≡ names → length items ≤ n
+    → row ≡ map (λ (name : String Z). cell_text word (get (string_bytes name) value)) (take n items) → row ≡ row_of word (map string_bytes names) value
+whole_row {Z} word names items value n row same all made =
+    made ∙ ap (map (λ (name : String Z). cell_text word (get (string_bytes name) value))) (take_all n items all ∙ same)
+    ∙ sym (map-map (λ (column : List ℕ). cell_text word (get column value)) string_bytes names)
 
 -- where there is none, none is counted
 pub none_counted : (bytes : List ℕ) → All (λ (byte : ℕ). (byte == 13) ≡ false) bytes → 0 ≡ count_by (λ (byte : ℕ). byte == 13) bytes
@@ -281,36 +281,43 @@ joined {R} first second third old new newer a b = (
 
 -- ---- where all columns are known
 
-pub known-columns : (k : ℕ) (above : List Json) (v : Json) → left_of k above ≡ 0 → first_columns k (above ++ v ∷ []) ≡ first_columns k above
-known-columns k above v none = ap columns_of (take-append-le k above (v ∷ []) (omega arith))
+pub known-columns : (k : LineRules) (above : List Json) (v : Json) → left_of k above ≡ 0 → first_columns k (above ++ v ∷ []) ≡ first_columns k above
+known-columns k above v none = ap columns_of (take-append-le k.records above (v ∷ []) (omega arith))
 
-none-left : (k : ℕ) (above : List Json) (v : Json) → left_of k above ≡ 0 → left_of k (above ++ v ∷ []) ≡ 0
+none-left : (k : LineRules) (above : List Json) (v : Json) → left_of k above ≡ 0 → left_of k (above ++ v ∷ []) ≡ 0
 none-left k above v none = omega (arith, length-append above (v ∷ []))
 
-pub known-table : (k : ℕ) (above : List Json) → left_of k above ≡ 0 → ended_table k above ≡ streamed_table k above
+pub known-table : (k : LineRules) (above : List Json) → left_of k above ≡ 0 → ended_table k above ≡ streamed_table k above
 known-table k above none = ap (λ (n : ℕ). if n == 0 then streamed_table k above else []) none
 
-pub late-records : (k : ℕ) (above : List Json) (v : Json) (t : LineTable) → HasRecords k above t → t.left ≡ 0 → HasRecords k (above ++ v ∷ []) t
+pub late-records : (k : LineRules) (above : List Json) (v : Json) (t : LineTable) → HasRecords k above t → t.left ≡ 0 → HasRecords k (above ++ v ∷ []) t
 late-records k above v t has none = record {
   left = none ∙ sym (none-left k above v (sym has.left ∙ none));
   columns = has.columns ∙ sym (known-columns k above v (sym has.left ∙ none));
+  null_text = has.null_text;
   held = λ some. absurd (let never : 0 < 0 = subst (λ (n : ℕ). 0 < n) none some in omega arith);
 }
 
-pub late-rows : (k : ℕ) (above : List Json) (v : Json) (t : LineTable) (old new : List (List (List ℕ))) → HasRecords k above t → t.left ≡ 0
-    → AppendsRest (table_in (columns_in t) above) (table_in (columns_in t) (above ++ v ∷ [])) old new → AppendsRest (ended_table k above) (ended_table k (above ++ v ∷ [])) old new
+-- the table of records in the columns of a table
+same-columns : (k : LineRules) (above : List Json) (t : LineTable) (records : List Json) → HasRecords k above t
+    → table_in (string_bytes t.null) (columns_in t) records ≡ table_in k.members.null_text (first_columns k above) records
+same-columns k above t records has =
+    ap (λ (word : List ℕ). table_in word (columns_in t) records) has.null_text ∙ ap (λ (c : List (List ℕ)). table_in k.members.null_text c records) has.columns
+
+pub late-rows : (k : LineRules) (above : List Json) (v : Json) (t : LineTable) (old new : List (List (List ℕ))) → HasRecords k above t → t.left ≡ 0
+    → AppendsRest (table_in (string_bytes t.null) (columns_in t) above) (table_in (string_bytes t.null) (columns_in t) (above ++ v ∷ [])) old new → AppendsRest (ended_table k above) (ended_table k (above ++ v ∷ [])) old new
 late-rows k above v t old new has none rest =
     let left : left_of k above ≡ 0 = sym has.left ∙ none in
-    let first : table_in (columns_in t) above ≡ ended_table k above = ap (λ (c : List (List ℕ)). table_in c above) has.columns ∙ sym (known-table k above left) in
-    let second : table_in (columns_in t) (above ++ v ∷ []) ≡ ended_table k (above ++ v ∷ []) =
-    ap (λ (c : List (List ℕ)). table_in c (above ++ v ∷ [])) (has.columns ∙ sym (known-columns k above v left)) ∙ sym (known-table k (above ++ v ∷ []) (none-left k above v left)) in
+    let first : table_in (string_bytes t.null) (columns_in t) above ≡ ended_table k above = same-columns k above t above has ∙ sym (known-table k above left) in
+    let second : table_in (string_bytes t.null) (columns_in t) (above ++ v ∷ []) ≡ ended_table k (above ++ v ∷ []) =
+    same-columns k above t (above ++ v ∷ []) has ∙ ap (λ (c : List (List ℕ)). table_in k.members.null_text c (above ++ v ∷ [])) (sym (known-columns k above v left)) ∙ sym (known-table k (above ++ v ∷ []) (none-left k above v left)) in
     (rest.0, rest.1, ap (λ (rows : List (List (List ℕ))). rows ++ rest.0) (sym first) ∙ rest.2 ∙ second)
 
 flipped : (b : Bool) (fault : JsonFault) → (if (true && not b) then Some fault else None) ≡ (if b then None else Some fault)
 flipped true fault = refl
 flipped false fault = refl
 
-pub late-faults : (k n : ℕ) (above : List Json) (v : Json) (t : LineTable) → HasRecords k above t → t.left ≡ 0
+pub late-faults : (k : LineRules) (n : ℕ) (above : List Json) (v : Json) (t : LineTable) → HasRecords k above t → t.left ≡ 0
     → late_fault k above n v ≡ (if has_all (columns_in t) v then None else Some (NoColumn (Line n)))
 late-faults k n above v t has none =
     let left : left_of k above ≡ 0 = sym has.left ∙ none in
@@ -319,90 +326,93 @@ late-faults k n above v t has none =
     ∙ flipped (has_all (first_columns k above) v) (NoColumn (Line n)) ∙ ap (λ (c : List (List ℕ)). if has_all c v then None else Some (NoColumn (Line n))) columns
 
 -- a row for a record whose members all have columns, and none where there is no column
-pub row-behind : (columns : List (List ℕ)) (above : List Json) (v : Json) (old new : List (List (List ℕ))) → (length columns == 0) ≡ false
-    → new ≡ old ++ row_of columns v ∷ [] → AppendsRest (table_in columns above) (table_in columns (above ++ v ∷ [])) old new
-row-behind columns above v old new some is = (row_of columns v ∷ [], is, rw some (ap (λ (rows : List (List (List ℕ))). columns ∷ rows) (sym (map-append (row_of columns) above (v ∷ [])))))
+pub row-behind : (word : List ℕ) (columns : List (List ℕ)) (above : List Json) (v : Json) (old new : List (List (List ℕ))) → (length columns == 0) ≡ false
+    → new ≡ old ++ row_of word columns v ∷ [] → AppendsRest (table_in word columns above) (table_in word columns (above ++ v ∷ [])) old new
+row-behind word columns above v old new some is = (row_of word columns v ∷ [], is, rw some (ap (λ (rows : List (List (List ℕ))). columns ∷ rows) (sym (map-append (row_of word columns) above (v ∷ [])))))
 
-pub no-row-behind : (columns : List (List ℕ)) (above : List Json) (v : Json) (old : List (List (List ℕ))) → (length columns == 0) ≡ true
-    → AppendsRest (table_in columns above) (table_in columns (above ++ v ∷ [])) old old
-no-row-behind columns above v old none = ([], sym (append-nil old), rw none refl)
+pub no-row-behind : (word : List ℕ) (columns : List (List ℕ)) (above : List Json) (v : Json) (old : List (List (List ℕ))) → (length columns == 0) ≡ true
+    → AppendsRest (table_in word columns above) (table_in word columns (above ++ v ∷ [])) old old
+no-row-behind word columns above v old none = ([], sym (append-nil old), rw none refl)
 
 -- ---- where records still say columns
 
 not-zero : (n : ℕ) → 0 < n → (n == 0) ≡ false
 not-zero n some = grind (arith, nat_tests)
 
-pub unknown-table : (k : ℕ) (above : List Json) → 0 < left_of k above → ended_table k above ≡ []
+pub unknown-table : (k : LineRules) (above : List Json) → 0 < left_of k above → ended_table k above ≡ []
 unknown-table k above some = ap (λ (b : Bool). if b then streamed_table k above else []) (not-zero (left_of k above) some)
 
-pub no-late-fault : (k n : ℕ) (above : List Json) (v : Json) → 0 < left_of k above → late_fault k above n v ≡ None
+pub no-late-fault : (k : LineRules) (n : ℕ) (above : List Json) (v : Json) → 0 < left_of k above → late_fault k above n v ≡ None
 no-late-fault k n above v some = ap (λ (b : Bool). if b && not (has_all (first_columns k above) v) then Some (NoColumn (Line n)) else None) (not-zero (left_of k above) some)
 
 -- the columns with one record more
-more-columns : (k : ℕ) (above : List Json) (v : Json) → 0 < left_of k above → first_columns k (above ++ v ∷ []) ≡ fold with_name (first_columns k above) (names_in v)
+more-columns : (k : LineRules) (above : List Json) (v : Json) → 0 < left_of k above → first_columns k (above ++ v ∷ []) ≡ fold with_name (first_columns k above) (names_in v)
 more-columns k above v some =
-    let all : take k above ≡ above = take_all k above (omega arith) in
-    let both : take k (above ++ v ∷ []) ≡ above ++ v ∷ [] = take_all k (above ++ v ∷ []) (omega (arith, length-append above (v ∷ []))) in
+    let all : take k.records above ≡ above = take_all k.records above (omega arith) in
+    let both : take k.records (above ++ v ∷ []) ≡ above ++ v ∷ [] = take_all k.records (above ++ v ∷ []) (omega (arith, length-append above (v ∷ []))) in
     ap columns_of both ∙ columns_more above (v ∷ []) ∙ ap (λ (c : List (List ℕ)). fold with_name c (flat_map names_in (v ∷ []))) (ap columns_of (sym all))
     ∙ ap (fold with_name (first_columns k above)) (append-nil (names_in v))
 
-pub grown-columns : (k : ℕ) (above : List Json) (v : Json) (t new : LineTable) → HasRecords k above t → 0 < t.left → columns_in new ≡ fold with_name (columns_in t) (names_in v)
+pub grown-columns : (k : LineRules) (above : List Json) (v : Json) (t new : LineTable) → HasRecords k above t → 0 < t.left → columns_in new ≡ fold with_name (columns_in t) (names_in v)
     → columns_in new ≡ first_columns k (above ++ v ∷ [])
 grown-columns k above v t new has some columns =
     columns ∙ ap (λ (c : List (List ℕ)). fold with_name c (names_in v)) has.columns ∙ sym (more-columns k above v (subst (λ (n : ℕ). 0 < n) has.left some))
 
 -- what a table holds, where one more record says columns
-pub first-held : (k : ℕ) (above : List Json) (v : Json) (t new : LineTable) → HasRecords k above t → 0 < t.left
-    → columns_in new ≡ fold with_name (columns_in t) (names_in v) → map fields_of new.held.items ≡ map fields_of t.held.items ++ row_of (columns_in new) v ∷ []
-    → map (padded (length (columns_in new))) (map fields_of new.held.items) ≡ map (row_of (columns_in new)) (above ++ v ∷ [])
+pub first-held : (k : LineRules) (above : List Json) (v : Json) (t new : LineTable) → HasRecords k above t → 0 < t.left
+    → columns_in new ≡ fold with_name (columns_in t) (names_in v) → map fields_of new.held.items ≡ map fields_of t.held.items ++ row_of (string_bytes t.null) (columns_in new) v ∷ []
+    → map (padded (length (columns_in new))) (map fields_of new.held.items) ≡ map (row_of (string_bytes t.null) (columns_in new)) (above ++ v ∷ [])
 first-held k above v t new has some columns held =
     let left : 0 < left_of k above = subst (λ (n : ℕ). 0 < n) has.left some in
-    let are : columns_in t ≡ columns_of above = has.columns ∙ ap columns_of (take_all k above (omega arith)) in
-    ap (map (padded (length (columns_in new)))) held ∙ held-more (columns_in t) (columns_in new) (map fields_of t.held.items) above v are columns (has.held some)
+    let are : columns_in t ≡ columns_of above = has.columns ∙ ap columns_of (take_all k.records above (omega arith)) in
+    ap (map (padded (length (columns_in new)))) held ∙ held-more (string_bytes t.null) (columns_in t) (columns_in new) (map fields_of t.held.items) above v are columns (has.held some)
 
-pub first-records : (k : ℕ) (above : List Json) (v : Json) (t new : LineTable) → HasRecords k above t → 0 < t.left → new.left ≡ t.left - 1
-    → columns_in new ≡ fold with_name (columns_in t) (names_in v)
-    → (0 < new.left → map fields_of new.held.items ≡ map fields_of t.held.items ++ row_of (columns_in new) v ∷ []) → HasRecords k (above ++ v ∷ []) new
-first-records k above v t new has some fewer columns held =
+pub first-records : (k : LineRules) (above : List Json) (v : Json) (t new : LineTable) → HasRecords k above t → 0 < t.left → new.left ≡ t.left - 1
+    → columns_in new ≡ fold with_name (columns_in t) (names_in v) → new.null ≡ t.null
+    → (0 < new.left → map fields_of new.held.items ≡ map fields_of t.held.items ++ row_of (string_bytes t.null) (columns_in new) v ∷ []) → HasRecords k (above ++ v ∷ []) new
+first-records k above v t new has some fewer columns same held =
     let left : 0 < left_of k above = subst (λ (n : ℕ). 0 < n) has.left some in
     record {
       left = fewer ∙ ap (λ (n : ℕ). n - 1) has.left ∙ omega (arith, length-append above (v ∷ []));
       columns = grown-columns k above v t new has some columns;
-      held = λ still. first-held k above v t new has some columns (held still);
+      null_text = ap string_bytes same ∙ has.null_text;
+      held = λ still.
+          first-held k above v t new has some columns (held still)
+          ∙ ap (λ (text : String Global). map (row_of (string_bytes text) (columns_in new)) (above ++ v ∷ [])) (sym same);
     }
 
 -- the rows that are given with the last record that says columns, and those that aren't yet
-pub all-rows : (k : ℕ) (above : List Json) (columns : List (List ℕ)) (v : Json) (old new : List (List (List ℕ))) → 0 < left_of k above → left_of k (above ++ v ∷ []) ≡ 0
-    → columns ≡ first_columns k (above ++ v ∷ []) → new ≡ old ++ table_in columns (above ++ v ∷ []) → AppendsRest (ended_table k above) (ended_table k (above ++ v ∷ [])) old new
-all-rows k above columns v old new some none are is = (
-  table_in columns (above ++ v ∷ []),
+pub all-rows : (k : LineRules) (above : List Json) (word : List ℕ) (columns : List (List ℕ)) (v : Json) (old new : List (List (List ℕ))) → 0 < left_of k above → left_of k (above ++ v ∷ []) ≡ 0
+    → columns ≡ first_columns k (above ++ v ∷ []) → word ≡ k.members.null_text → new ≡ old ++ table_in word columns (above ++ v ∷ []) → AppendsRest (ended_table k above) (ended_table k (above ++ v ∷ [])) old new
+all-rows k above word columns v old new some none are same is = (
+  table_in word columns (above ++ v ∷ []),
   is,
-  ap (λ (rows : List (List (List ℕ))). rows ++ table_in columns (above ++ v ∷ [])) (unknown-table k above some)
-      ∙ ap (λ (c : List (List ℕ)). table_in c (above ++ v ∷ [])) are ∙ sym (known-table k (above ++ v ∷ []) none),
+  ap (λ (rows : List (List (List ℕ))). rows ++ table_in word columns (above ++ v ∷ [])) (unknown-table k above some)
+      ∙ ap (λ (w : List ℕ). table_in w columns (above ++ v ∷ [])) same ∙ ap (λ (c : List (List ℕ)). table_in k.members.null_text c (above ++ v ∷ [])) are ∙ sym (known-table k (above ++ v ∷ []) none),
 )
 
-pub no-rows-yet : (k : ℕ) (above : List Json) (v : Json) (old : List (List (List ℕ))) → 0 < left_of k above → 0 < left_of k (above ++ v ∷ [])
+pub no-rows-yet : (k : LineRules) (above : List Json) (v : Json) (old : List (List (List ℕ))) → 0 < left_of k above → 0 < left_of k (above ++ v ∷ [])
     → AppendsRest (ended_table k above) (ended_table k (above ++ v ∷ [])) old old
 no-rows-yet k above v old some still = ([], sym (append-nil old), ap (λ (rows : List (List (List ℕ))). rows ++ []) (unknown-table k above some) ∙ sym (unknown-table k (above ++ v ∷ []) still))
 
 -- the rows that are left, where no record comes
-pub rest-held : (k : ℕ) (above : List Json) (t : LineTable) (old new : List (List (List ℕ))) → HasRecords k above t → 0 < t.left
-    → new ≡ old ++ table_in (columns_in t) above → AppendsRest (ended_table k above) (streamed_table k above) old new
+pub rest-held : (k : LineRules) (above : List Json) (t : LineTable) (old new : List (List (List ℕ))) → HasRecords k above t → 0 < t.left
+    → new ≡ old ++ table_in (string_bytes t.null) (columns_in t) above → AppendsRest (ended_table k above) (streamed_table k above) old new
 rest-held k above t old new has some is = (
-  table_in (columns_in t) above,
+  table_in (string_bytes t.null) (columns_in t) above,
   is,
-  ap (λ (rows : List (List (List ℕ))). rows ++ table_in (columns_in t) above) (unknown-table k above (subst (λ (n : ℕ). 0 < n) has.left some))
-      ∙ ap (λ (c : List (List ℕ)). table_in c above) has.columns,
+  ap (λ (rows : List (List (List ℕ))). rows ++ table_in (string_bytes t.null) (columns_in t) above) (unknown-table k above (subst (λ (n : ℕ). 0 < n) has.left some))
+      ∙ same-columns k above t above has,
 )
 
-pub rest-known : (k : ℕ) (above : List Json) (t : LineTable) (old : List (List (List ℕ))) → HasRecords k above t → t.left ≡ 0
+pub rest-known : (k : LineRules) (above : List Json) (t : LineTable) (old : List (List (List ℕ))) → HasRecords k above t → t.left ≡ 0
     → AppendsRest (ended_table k above) (streamed_table k above) old old
 rest-known k above t old has none = ([], sym (append-nil old), append-nil (ended_table k above) ∙ known-table k above (sym has.left ∙ none))
 
 -- no record, no row
-pub no-table : (k : ℕ) → ended_table k [] ≡ []
+pub no-table : (k : LineRules) → ended_table k [] ≡ []
 no-table k =
-    let none : streamed_table k [] ≡ [] = ap (λ (first : List Json). table_in (columns_of first) []) (take_all k [] (omega arith)) in
+    let none : streamed_table k [] ≡ [] = ap (λ (first : List Json). table_in k.members.null_text (columns_of first) []) (take_all k.records [] (omega arith)) in
     elim (cases_Bool (left_of k [] == 0)) [
       | inl known ↦ ap (λ (b : Bool). if b then streamed_table k [] else []) known ∙ none
       | inr left ↦ ap (λ (b : Bool). if b then streamed_table k [] else []) left

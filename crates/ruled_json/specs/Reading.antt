@@ -5,7 +5,7 @@ use Rattle.csv.specs.Records.{fields_of}
 use Rattle.json.specs.Json.{Json}
 use Rattle.ruled_json.specs.Faults.{but_line}
 use Rattle.ruled_json.specs.Rows.{lines_of, records_on, row_of}
-use Rattle.ruled_json.specs.Streamed.{ended_lines, first_columns, first_fault_behind, left_of, lines_above_fault, number_behind}
+use Rattle.ruled_json.specs.Streamed.{LineRules, ended_lines, first_columns, first_fault_behind, left_of, lines_above_fault, number_behind}
 use Rattle.ruled_json.specs.declared.fault.JsonFault.{JsonFault}
 use Rattle.ruled_json.specs.declared.fault.JsonFault.TheVariants.{Memory}
 use Rattle.ruled_json.specs.declared.line_reader.LineReader.{LineReader}
@@ -20,18 +20,19 @@ abbrev pub columns_in : LineTable → List (List ℕ)
 columns_in table = map string_bytes table.names.names.keys
 
 -- what a table has of these records
-pub record HasRecords (records : ℕ) (above : List Json) (table : LineTable) : Type 0 where
-  pub left : table.left ≡ left_of records above
-  pub columns : columns_in table ≡ first_columns records above
+pub record HasRecords (rules : LineRules) (above : List Json) (table : LineTable) : Type 0 where
+  pub left : table.left ≡ left_of rules above
+  pub columns : columns_in table ≡ first_columns rules above
+  pub null_text : string_bytes table.null ≡ rules.members.null_text
   -- until all columns are known it holds the rows, but for empty cells at their ends
-  pub held : 0 < table.left → map (padded (length (columns_in table))) (map fields_of table.held.items) ≡ map (row_of (columns_in table)) above
+  pub held : 0 < table.left → map (padded (length (columns_in table))) (map fields_of table.held.items) ≡ map (row_of (string_bytes table.null) (columns_in table)) above
 
 -- a table has read these lines, and found nothing wrong
-pub record HasLines (records : ℕ) (lines : List (List ℕ)) (table : LineTable) : Type 0 where
-  pub has : HasRecords records (records_on lines) table
+pub record HasLines (rules : LineRules) (lines : List (List ℕ)) (table : LineTable) : Type 0 where
+  pub has : HasRecords rules (records_on lines) table
   pub number : table.number ≡ number_behind lines
-  pub right : (behind : List (List ℕ)) → first_fault_behind records [] (lines ++ behind) ≡ first_fault_behind records lines behind
-  pub above : (behind : List (List ℕ)) → lines_above_fault records [] (lines ++ behind) ≡ lines_above_fault records lines behind
+  pub right : (behind : List (List ℕ)) → first_fault_behind rules [] (lines ++ behind) ≡ first_fault_behind rules lines behind
+  pub above : (behind : List (List ℕ)) → lines_above_fault rules [] (lines ++ behind) ≡ lines_above_fault rules lines behind
 
 -- no line feed is among these bytes
 abbrev pub NoFeed : List ℕ → Type 0
@@ -43,8 +44,8 @@ without_front is_front line = if is_front then strip_bom line else line
 
 -- A reader has read these bytes, and found nothing wrong. What it holds of them is no matter of a caller, who has this from
 -- `new` of no bytes, and from `read` of more and more.
-pub record HasRead (records : ℕ) (bytes : List ℕ) (reader : LineReader) : Type 0 where
-  pub table : HasLines records (ended_lines bytes) reader.table
+pub record HasRead (rules : LineRules) (bytes : List ℕ) (reader : LineReader) : Type 0 where
+  pub table : HasLines rules (ended_lines bytes) reader.table
   pub lines : (behind : List ℕ) → lines_of (strip_bom (bytes ++ behind)) ≡ ended_lines bytes ++ lines_of (without_front reader.is_front (reader.line.items ++ behind))
   pub within : NoFeed reader.line.items
 

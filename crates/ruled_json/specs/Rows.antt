@@ -1,5 +1,5 @@
 -- The rows that JSON holds: a header, and a row for each record.
-use Rattle.std.specs.Prelude.{ℕ, ◌==◌, List, [], ◌∷◌, ◌++◌, map, fold, length, flat_map, Bool, Option, Some, None, option_and_then, if◌then◌else◌}
+use Rattle.std.specs.Prelude.{ℕ, ◌==◌, List, [], ◌∷◌, ◌++◌, map, fold, length, flat_map, string_bytes, Bool, Option, Some, None, option_and_then, if◌then◌else◌}
 use Rattle.std.specs.List.{filter_map, list_all, list_any, slice_split}
 use Rattle.std.specs.Str.{bytes_eq}
 use Rattle.json.specs.Find.{get}
@@ -8,6 +8,21 @@ use Rattle.json.specs.Print.{print}
 use Rattle.json.specs.Strict.{keys}
 use Rattle.json.specs.Tree.{json_tokens}
 use Rattle.json.specs.Word.{is_space}
+use Rattle.ruled_json.specs.declared.member_names.MemberRules.{MemberRules}
+
+-- ---- rules
+
+-- the path of the member that has the records, and the text for null
+pub record Rules : Type 0 where
+  pub path : List (List ℕ)
+  pub null_text : List ℕ
+
+abbrev pub rules_of : MemberRules → Rules
+rules_of rules = record { path = map string_bytes rules.path.items; null_text = string_bytes rules.null }
+
+-- the value itself has the records, and nothing is shown for null
+abbrev pub plain_rules : Rules
+plain_rules = record { path = []; null_text = [] }
 
 -- ---- columns
 
@@ -34,28 +49,28 @@ has_all columns value = list_all (λ name. list_any (bytes_eq name) columns) (na
 
 -- ---- rows
 
--- the text of a member: that of a string, a number as it was written, an array or an object without spaces, and none where
--- there is no member or it is null
-abbrev pub cell_text : Option Json → List ℕ
-cell_text None = []
-cell_text (Some null) = []
-cell_text (Some (boolean b)) = print (json_tokens (boolean b))
-cell_text (Some (number s)) = s
-cell_text (Some (string s)) = s
-cell_text (Some (array js)) = print (json_tokens (array js))
-cell_text (Some (object ms)) = print (json_tokens (object ms))
+-- the text of a member: that of a string, a number as it was written, an array or an object without spaces, this one for
+-- null, and none where there is no member
+abbrev pub cell_text : List ℕ → Option Json → List ℕ
+cell_text null_text None = []
+cell_text null_text (Some null) = null_text
+cell_text null_text (Some (boolean b)) = print (json_tokens (boolean b))
+cell_text null_text (Some (number s)) = s
+cell_text null_text (Some (string s)) = s
+cell_text null_text (Some (array js)) = print (json_tokens (array js))
+cell_text null_text (Some (object ms)) = print (json_tokens (object ms))
 
 -- the row of a record; of members of one name the last one counts
-abbrev pub row_of : List (List ℕ) → Json → List (List ℕ)
-row_of columns value = map (λ column. cell_text (get column value)) columns
+abbrev pub row_of : List ℕ → List (List ℕ) → Json → List (List ℕ)
+row_of null_text columns value = map (λ column. cell_text null_text (get column value)) columns
 
 -- the header and the rows of records in these columns; where there is no column, there are none
-abbrev pub table_in : List (List ℕ) → List Json → List (List (List ℕ))
-table_in columns records = if length columns == 0 then [] else columns ∷ map (row_of columns) records
+abbrev pub table_in : List ℕ → List (List ℕ) → List Json → List (List (List ℕ))
+table_in null_text columns records = if length columns == 0 then [] else columns ∷ map (row_of null_text columns) records
 
 -- the rows of records, in the columns of all of them
-abbrev pub table_of : List Json → List (List (List ℕ))
-table_of records = table_in (columns_of records) records
+abbrev pub table_of : List ℕ → List Json → List (List (List ℕ))
+table_of null_text records = table_in null_text (columns_of records) records
 
 -- ---- the member that has the records
 
@@ -84,9 +99,9 @@ abbrev pub records_of : Option Json → List Json
 records_of None = []
 records_of (Some value) = records_in value
 
--- the rows of the member at this path of the value that these bytes are
-unfoldable pub rows_of : List (List ℕ) → List ℕ → List (List (List ℕ))
-rows_of path bytes = table_of (records_of (option_and_then (member_at path) (document bytes)))
+-- the rows of the member at the path of the value that these bytes are
+unfoldable pub rows_of : Rules → List ℕ → List (List (List ℕ))
+rows_of rules bytes = table_of rules.null_text (records_of (option_and_then (member_at rules.path) (document bytes)))
 
 -- ---- a record on each line
 
@@ -105,5 +120,5 @@ abbrev pub records_on : List (List ℕ) → List Json
 records_on lines = filter_map record_on lines
 
 -- the rows of the values that the lines of these bytes are
-unfoldable pub line_rows_of : List ℕ → List (List (List ℕ))
-line_rows_of bytes = table_of (records_on (lines_of bytes))
+unfoldable pub line_rows_of : Rules → List ℕ → List (List (List ℕ))
+line_rows_of rules bytes = table_of rules.null_text (records_on (lines_of bytes))

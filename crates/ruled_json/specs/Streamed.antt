@@ -4,7 +4,7 @@ use Rattle.std.specs.Option.{option_or}
 use Rattle.csv.specs.Reading.{strip_bom}
 use Rattle.json.specs.Json.{Json}
 use Rattle.ruled_json.specs.Faults.{line_after, line_fault}
-use Rattle.ruled_json.specs.Rows.{columns_of, has_all, lines_of, record_on, records_on, table_in}
+use Rattle.ruled_json.specs.Rows.{Rules, columns_of, has_all, lines_of, record_on, records_on, table_in}
 use Rattle.ruled_json.specs.declared.fault.JsonFault.{JsonFault}
 use Rattle.ruled_json.specs.declared.fault.JsonFault.TheVariants.{NoColumn}
 use Rattle.ruled_json.specs.declared.place.Place.TheVariants.{Line}
@@ -13,20 +13,25 @@ use Rattle.ruled_json.specs.declared.place.Place.TheVariants.{Line}
 abbrev pub number_behind : List (List ℕ) → ℕ
 number_behind lines = fold line_after 1 lines
 
+-- so many first records say the columns, and these rules what is shown of all
+pub record LineRules : Type 0 where
+  pub records : ℕ
+  pub members : Rules
+
 -- ---- records
 
-module _ (records : ℕ) (above : List Json) where
-  -- how many records behind these still say columns, where so many do
+module _ (rules : LineRules) (above : List Json) where
+  -- how many records behind these still say columns
   abbrev pub left_of : ℕ
-  left_of = records - length above
+  left_of = rules.records - length above
 
   -- the columns that they say
   abbrev pub first_columns : List (List ℕ)
-  first_columns = columns_of (take records above)
+  first_columns = columns_of (take rules.records above)
 
   -- the header and the rows
   abbrev pub streamed_table : List (List (List ℕ))
-  streamed_table = table_in first_columns above
+  streamed_table = table_in rules.members.null_text first_columns above
 
   -- those that are known: none before all records are there that say columns
   abbrev pub ended_table : List (List (List ℕ))
@@ -39,29 +44,29 @@ module _ (records : ℕ) (above : List Json) where
 -- ---- faults
 
 -- what is wrong with a line behind these
-abbrev pub fault_behind : ℕ → List (List ℕ) → List ℕ → Option JsonFault
-fault_behind records above line =
-    option_or (line_fault (number_behind above) line) (option_and_then (late_fault records (records_on above) (number_behind above)) (record_on line))
+abbrev pub fault_behind : LineRules → List (List ℕ) → List ℕ → Option JsonFault
+fault_behind rules above line =
+    option_or (line_fault (number_behind above) line) (option_and_then (late_fault rules (records_on above) (number_behind above)) (record_on line))
 
 -- and with the first bad one of lines behind these
-abbrev pub first_fault_behind : ℕ → List (List ℕ) → List (List ℕ) → Option JsonFault
-first_fault_behind records above [] = None
-first_fault_behind records above (line ∷ lines) = option_or (fault_behind records above line) (first_fault_behind records (above ++ line ∷ []) lines)
+abbrev pub first_fault_behind : LineRules → List (List ℕ) → List (List ℕ) → Option JsonFault
+first_fault_behind rules above [] = None
+first_fault_behind rules above (line ∷ lines) = option_or (fault_behind rules above line) (first_fault_behind rules (above ++ line ∷ []) lines)
 
 -- the lines above the first bad one of those behind these
-abbrev pub lines_above_fault : ℕ → List (List ℕ) → List (List ℕ) → List (List ℕ)
-lines_above_fault records above [] = above
-lines_above_fault records above (line ∷ lines) = if is_none (fault_behind records above line) then lines_above_fault records (above ++ line ∷ []) lines else above
+abbrev pub lines_above_fault : LineRules → List (List ℕ) → List (List ℕ) → List (List ℕ)
+lines_above_fault rules above [] = above
+lines_above_fault rules above (line ∷ lines) = if is_none (fault_behind rules above line) then lines_above_fault rules (above ++ line ∷ []) lines else above
 
 -- what is wrong with bytes that are to have a record on each line, without a byte order mark at their front
-unfoldable pub streamed_line_fault : ℕ → List ℕ → Option JsonFault
-streamed_line_fault records bytes = first_fault_behind records [] (lines_of (strip_bom bytes))
+unfoldable pub streamed_line_fault : LineRules → List ℕ → Option JsonFault
+streamed_line_fault rules bytes = first_fault_behind rules [] (lines_of (strip_bom bytes))
 
 -- ---- rows
 
 -- the rows above the first bad line
-unfoldable pub sound_line_rows : ℕ → List ℕ → List (List (List ℕ))
-sound_line_rows records bytes = streamed_table records (records_on (lines_above_fault records [] (lines_of (strip_bom bytes))))
+unfoldable pub sound_line_rows : LineRules → List ℕ → List (List (List ℕ))
+sound_line_rows rules bytes = streamed_table rules (records_on (lines_above_fault rules [] (lines_of (strip_bom bytes))))
 
 -- the lines that a line feed ends: all but the last one
 abbrev pub all_but_last : List (List ℕ) → List (List ℕ)
@@ -71,5 +76,5 @@ unfoldable pub ended_lines : List ℕ → List (List ℕ)
 ended_lines bytes = all_but_last (lines_of (strip_bom bytes))
 
 -- their rows
-unfoldable pub ended_line_rows : ℕ → List ℕ → List (List (List ℕ))
-ended_line_rows records bytes = ended_table records (records_on (ended_lines bytes))
+unfoldable pub ended_line_rows : LineRules → List ℕ → List (List (List ℕ))
+ended_line_rows rules bytes = ended_table rules (records_on (ended_lines bytes))

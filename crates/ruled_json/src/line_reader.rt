@@ -5,12 +5,13 @@ ghost use Rattle.csv.specs.Reading.{strip_bom};
 ghost use Rattle.csv.specs.Records.{fields_of};
 ghost use Rattle.ruled_json.specs.Faults.{Tells};
 ghost use Rattle.ruled_json.specs.Reading.{AppendsRest, Foretells, HasLines, HasRead, NoFeed, OnFault, without_front};
-ghost use Rattle.ruled_json.specs.Rows.{records_on};
-ghost use Rattle.ruled_json.specs.Streamed.{ended_line_rows, ended_table, fault_behind, sound_line_rows, streamed_line_fault, streamed_table};
+ghost use Rattle.ruled_json.specs.Rows.{records_on, rules_of};
+ghost use Rattle.ruled_json.specs.Streamed.{LineRules, ended_line_rows, ended_table, fault_behind, sound_line_rows, streamed_line_fault, streamed_table};
 
 use crate::fault::JsonFault;
 use crate::line_table::LineTable;
 use crate::lines::split_line;
+use crate::member_names::MemberRules;
 use csv::StringRecord;
 use json::Scratch;
 use std::alloc::{AllocError, Global};
@@ -63,15 +64,16 @@ pub struct LineReader {
 
 impl LineReader {
     /// A reader that has read nothing.
-    pub fn new(alloc: Global, records: usize) -> LineReader
-        ensures { HasRead records [] result }
+    pub fn new(alloc: Global, rules: &MemberRules, records: usize) -> Result<LineReader, AllocError>
+        ensures { IfOk result (HasRead (record { records = records; members = rules_of rules.now }) []) }
     {
-        LineReader {
+        let table = LineTable::new(alloc, rules, records)?;
+        Ok(LineReader {
             alloc,
-            table: LineTable::new(alloc, records),
+            table,
             line: Vec::new(alloc),
             is_front: true,
-        }
+        })
     }
 
     // Reads a line.
@@ -82,13 +84,13 @@ impl LineReader {
         rows: &mut Vec<StringRecord>,
     ) -> Result<(), JsonFault>
         ensures kept { (self.new.line ≡ self.old.line) × (self.new.is_front ≡ false) }
-        ensures read { (records : ℕ) (above : List (List ℕ)) → HasLines records above self.old.table
-            → OnOk result (HasLines records (above ++ without_front self.old.is_front line.now ∷ []) self.new.table) }
-        ensures rows { (records : ℕ) (above : List (List ℕ)) → HasLines records above self.old.table
-            → OnOk result (AppendsRest (ended_table records (records_on above)) (ended_table records (records_on (above ++ without_front self.old.is_front line.now ∷ []))) (map fields_of rows.old.items) (map fields_of rows.new.items)) }
-        ensures fault { (records : ℕ) (above : List (List ℕ)) → HasLines records above self.old.table → Tells (fault_behind records above (without_front self.old.is_front line.now)) result }
-        ensures sound { (records : ℕ) (above : List (List ℕ)) → HasLines records above self.old.table
-            → OnFault result (AppendsRest (ended_table records (records_on above)) (streamed_table records (records_on above)) (map fields_of rows.old.items) (map fields_of rows.new.items)) }
+        ensures read { (rules : LineRules) (above : List (List ℕ)) → HasLines rules above self.old.table
+            → OnOk result (HasLines rules (above ++ without_front self.old.is_front line.now ∷ []) self.new.table) }
+        ensures rows { (rules : LineRules) (above : List (List ℕ)) → HasLines rules above self.old.table
+            → OnOk result (AppendsRest (ended_table rules (records_on above)) (ended_table rules (records_on (above ++ without_front self.old.is_front line.now ∷ []))) (map fields_of rows.old.items) (map fields_of rows.new.items)) }
+        ensures fault { (rules : LineRules) (above : List (List ℕ)) → HasLines rules above self.old.table → Tells (fault_behind rules above (without_front self.old.is_front line.now)) result }
+        ensures sound { (rules : LineRules) (above : List (List ℕ)) → HasLines rules above self.old.table
+            → OnFault result (AppendsRest (ended_table rules (records_on above)) (streamed_table rules (records_on above)) (map fields_of rows.old.items) (map fields_of rows.new.items)) }
     {
         let text = line_text(self.is_front, line);
         self.is_front = false;
@@ -103,12 +105,12 @@ impl LineReader {
         rows: &mut Vec<StringRecord>,
     ) -> Result<(), JsonFault>
         requires within { NoFeed bytes.now }
-        ensures read { (records : ℕ) (before : List ℕ) → HasRead records before self.old → OnOk result (HasRead records (before ++ (bytes.now ++ 10 ∷ [])) self.new) }
-        ensures rows { (records : ℕ) (before : List ℕ) → HasRead records before self.old
-            → OnOk result (AppendsRest (ended_line_rows records before) (ended_line_rows records (before ++ (bytes.now ++ 10 ∷ []))) (map fields_of rows.old.items) (map fields_of rows.new.items)) }
-        ensures fault { (records : ℕ) (before behind : List ℕ) → HasRead records before self.old → Foretells (streamed_line_fault records (before ++ (bytes.now ++ 10 ∷ behind))) result }
-        ensures sound { (records : ℕ) (before behind : List ℕ) → HasRead records before self.old
-            → OnFault result (AppendsRest (ended_line_rows records before) (sound_line_rows records (before ++ (bytes.now ++ 10 ∷ behind))) (map fields_of rows.old.items) (map fields_of rows.new.items)) }
+        ensures read { (rules : LineRules) (before : List ℕ) → HasRead rules before self.old → OnOk result (HasRead rules (before ++ (bytes.now ++ 10 ∷ [])) self.new) }
+        ensures rows { (rules : LineRules) (before : List ℕ) → HasRead rules before self.old
+            → OnOk result (AppendsRest (ended_line_rows rules before) (ended_line_rows rules (before ++ (bytes.now ++ 10 ∷ []))) (map fields_of rows.old.items) (map fields_of rows.new.items)) }
+        ensures fault { (rules : LineRules) (before behind : List ℕ) → HasRead rules before self.old → Foretells (streamed_line_fault rules (before ++ (bytes.now ++ 10 ∷ behind))) result }
+        ensures sound { (rules : LineRules) (before behind : List ℕ) → HasRead rules before self.old
+            → OnFault result (AppendsRest (ended_line_rows rules before) (sound_line_rows rules (before ++ (bytes.now ++ 10 ∷ behind))) (map fields_of rows.old.items) (map fields_of rows.new.items)) }
     {
         let mut line = mem::replace(&mut self.line, Vec::new(self.alloc));
         if line.is_empty() {
@@ -120,12 +122,12 @@ impl LineReader {
 
     /// Reads the next bytes, and appends the rows that are complete with them.
     pub fn read(self, bytes: &[u8], rows: &mut Vec<StringRecord>) -> Result<LineReader, JsonFault>
-        ensures read { (records : ℕ) (before : List ℕ) → HasRead records before self → IfOk result (λ reader. HasRead records (before ++ bytes.now) reader) }
-        ensures rows { (records : ℕ) (before : List ℕ) → HasRead records before self
-            → OnOk result (AppendsRest (ended_line_rows records before) (ended_line_rows records (before ++ bytes.now)) (map fields_of rows.old.items) (map fields_of rows.new.items)) }
-        ensures fault { (records : ℕ) (before behind : List ℕ) → HasRead records before self → Foretells (streamed_line_fault records ((before ++ bytes.now) ++ behind)) result }
-        ensures sound { (records : ℕ) (before behind : List ℕ) → HasRead records before self
-            → OnFault result (AppendsRest (ended_line_rows records before) (sound_line_rows records ((before ++ bytes.now) ++ behind)) (map fields_of rows.old.items) (map fields_of rows.new.items)) }
+        ensures read { (rules : LineRules) (before : List ℕ) → HasRead rules before self → IfOk result (λ reader. HasRead rules (before ++ bytes.now) reader) }
+        ensures rows { (rules : LineRules) (before : List ℕ) → HasRead rules before self
+            → OnOk result (AppendsRest (ended_line_rows rules before) (ended_line_rows rules (before ++ bytes.now)) (map fields_of rows.old.items) (map fields_of rows.new.items)) }
+        ensures fault { (rules : LineRules) (before behind : List ℕ) → HasRead rules before self → Foretells (streamed_line_fault rules ((before ++ bytes.now) ++ behind)) result }
+        ensures sound { (rules : LineRules) (before behind : List ℕ) → HasRead rules before self
+            → OnFault result (AppendsRest (ended_line_rows rules before) (sound_line_rows rules ((before ++ bytes.now) ++ behind)) (map fields_of rows.old.items) (map fields_of rows.new.items)) }
     {
         let mut reader = self;
         let mut scratch = Scratch::new(reader.alloc);
@@ -140,11 +142,11 @@ impl LineReader {
 
     /// Ends the reading when no byte is left, and appends the remaining rows.
     pub fn finish(self, rows: &mut Vec<StringRecord>) -> Result<(), JsonFault>
-        ensures rows { (records : ℕ) (bytes : List ℕ) → HasRead records bytes self
-            → OnOk result (AppendsRest (ended_line_rows records bytes) (sound_line_rows records bytes) (map fields_of rows.old.items) (map fields_of rows.new.items)) }
-        ensures fault { (records : ℕ) (bytes : List ℕ) → HasRead records bytes self → Tells (streamed_line_fault records bytes) result }
-        ensures sound { (records : ℕ) (bytes : List ℕ) → HasRead records bytes self
-            → OnFault result (AppendsRest (ended_line_rows records bytes) (sound_line_rows records bytes) (map fields_of rows.old.items) (map fields_of rows.new.items)) }
+        ensures rows { (rules : LineRules) (bytes : List ℕ) → HasRead rules bytes self
+            → OnOk result (AppendsRest (ended_line_rows rules bytes) (sound_line_rows rules bytes) (map fields_of rows.old.items) (map fields_of rows.new.items)) }
+        ensures fault { (rules : LineRules) (bytes : List ℕ) → HasRead rules bytes self → Tells (streamed_line_fault rules bytes) result }
+        ensures sound { (rules : LineRules) (bytes : List ℕ) → HasRead rules bytes self
+            → OnFault result (AppendsRest (ended_line_rows rules bytes) (sound_line_rows rules bytes) (map fields_of rows.old.items) (map fields_of rows.new.items)) }
     {
         let mut reader = self;
         let mut scratch = Scratch::new(reader.alloc);

@@ -1,20 +1,20 @@
 //! The table of records, one on each line.
 
-ghost use Rattle.std.specs.Prelude.{◌≡◌, ◌∷◌, ◌++◌, [], ℕ, List, fold, length, map, None, Some, IfOk, IsOk, OnOk, if◌then◌else◌};
+ghost use Rattle.std.specs.Prelude.{◌≡◌, ◌∷◌, ◌++◌, [], ℕ, List, fold, length, map, string_bytes, None, Some, IfOk, IsOk, OnOk, if◌then◌else◌};
 ghost use Rattle.csv.specs.Records.{fields_of};
 ghost use Rattle.json.specs.Json.{Json};
 ghost use Rattle.json.specs.Tree.{HasNumbers};
 ghost use Rattle.json.specs.Value.{value_view};
 ghost use Rattle.ruled_json.specs.Faults.{Tells, line_rows_fault};
 ghost use Rattle.ruled_json.specs.Reading.{AppendsRest, HasLines, HasRecords, OnFault, columns_in, padded};
-ghost use Rattle.ruled_json.specs.Rows.{has_all, line_rows_of, names_in, records_on, row_of, table_in, with_name};
-ghost use Rattle.ruled_json.specs.Streamed.{ended_table, fault_behind, late_fault, streamed_table};
+ghost use Rattle.ruled_json.specs.Rows.{has_all, line_rows_of, names_in, records_on, row_of, rules_of, table_in, with_name};
+ghost use Rattle.ruled_json.specs.Streamed.{LineRules, ended_table, fault_behind, late_fault, streamed_table};
 ghost use Rattle.ruled_json.specs.declared.fault.JsonFault.TheVariants.{NoColumn};
 ghost use Rattle.ruled_json.specs.declared.place.Place.TheVariants.{Line};
 
 use crate::fault::JsonFault;
 use crate::lines::{line_after, lines_of, record_on};
-use crate::member_names::MemberNames;
+use crate::member_names::{MemberNames, MemberRules};
 use crate::place::Place;
 use csv::StringRecord;
 use json::{Scratch, Value};
@@ -25,6 +25,8 @@ use std::mem;
 #[derive(Drop)]
 pub(crate) struct LineTable {
     alloc: Global,
+    // The text for null.
+    null: String,
     // The columns.
     names: MemberNames,
     // How many records are still to come whose members are columns.
@@ -38,24 +40,30 @@ pub(crate) struct LineTable {
 
 impl LineTable {
     /// The table of no lines, whose columns are the members of so many records.
-    pub(crate) fn new(alloc: Global, records: usize) -> LineTable
-        ensures { HasLines records [] result }
+    pub(crate) fn new(
+        alloc: Global,
+        rules: &MemberRules,
+        records: usize,
+    ) -> Result<LineTable, AllocError>
+        ensures { IfOk result (HasLines (record { records = records; members = rules_of rules.now }) []) }
     {
-        LineTable {
+        let null = String::from_str(alloc, rules.null.as_str())?;
+        Ok(LineTable {
             alloc,
+            null,
             names: MemberNames::new(alloc),
             left: records,
             held: Vec::new(alloc),
             number: 1,
-        }
+        })
     }
 
     // Appends the header and the held rows.
     fn push_held(&mut self, rows: &mut Vec<StringRecord>) -> Result<(), AllocError>
-        ensures kept { (self.new.names ≡ self.old.names) × (self.new.left ≡ self.old.left) × (self.new.number ≡ self.old.number) }
-        ensures rows { (records : List Json)
-            → map (padded (length (columns_in self.old))) (map fields_of self.old.held.items) ≡ map (row_of (columns_in self.old)) records
-            → OnOk result (map fields_of rows.new.items ≡ map fields_of rows.old.items ++ table_in (columns_in self.old) records) }
+        ensures kept { (self.new.names ≡ self.old.names) × (self.new.left ≡ self.old.left) × (self.new.number ≡ self.old.number) × (self.new.null ≡ self.old.null) }
+        ensures rows { (word : List ℕ) (records : List Json)
+            → map (padded (length (columns_in self.old))) (map fields_of self.old.held.items) ≡ map (row_of word (columns_in self.old)) records
+            → OnOk result (map fields_of rows.new.items ≡ map fields_of rows.old.items ++ table_in word (columns_in self.old) records) }
     {
         if self.names.is_empty() {
             return Ok(());
@@ -73,12 +81,12 @@ impl LineTable {
     // Holds the row of a record whose members are columns.
     fn hold(&mut self, value: &Value<'_>) -> Result<(), AllocError>
         requires numbers { HasNumbers (value_view value.now) }
-        ensures kept { (self.new.left ≡ self.old.left) × (self.new.number ≡ self.old.number) }
+        ensures kept { (self.new.left ≡ self.old.left) × (self.new.number ≡ self.old.number) × (self.new.null ≡ self.old.null) }
         ensures columns { OnOk result (columns_in self.new ≡ fold with_name (columns_in self.old) (names_in (value_view value.now))) }
-        ensures held { OnOk result (map fields_of self.new.held.items ≡ map fields_of self.old.held.items ++ row_of (columns_in self.new) (value_view value.now) ∷ []) }
+        ensures held { OnOk result (map fields_of self.new.held.items ≡ map fields_of self.old.held.items ++ row_of (string_bytes self.old.null) (columns_in self.new) (value_view value.now) ∷ []) }
     {
         self.names.add_record(self.alloc, value)?;
-        let row = self.names.row(self.alloc, value)?;
+        let row = self.names.row(self.alloc, self.null.as_str(), value)?;
         self.held.push(row)?;
         Ok(())
     }
@@ -93,7 +101,7 @@ impl LineTable {
         requires numbers { HasNumbers (value_view value.now) }
         ensures fault { Tells (if has_all (columns_in self.now) (value_view value.now) then None else Some (NoColumn (Line number))) result }
         ensures rows { (above : List Json)
-            → OnOk result (AppendsRest (table_in (columns_in self.now) above) (table_in (columns_in self.now) (above ++ value_view value.now ∷ [])) (map fields_of rows.old.items) (map fields_of rows.new.items)) }
+            → OnOk result (AppendsRest (table_in (string_bytes self.now.null) (columns_in self.now) above) (table_in (string_bytes self.now.null) (columns_in self.now) (above ++ value_view value.now ∷ [])) (map fields_of rows.old.items) (map fields_of rows.new.items)) }
         ensures sound { OnFault result (map fields_of rows.new.items ≡ map fields_of rows.old.items) }
     {
         if !self.names.has_all(value) {
@@ -102,7 +110,7 @@ impl LineTable {
         if self.names.is_empty() {
             return Ok(());
         }
-        rows.push(self.names.row(self.alloc, value)?)?;
+        rows.push(self.names.row(self.alloc, self.null.as_str(), value)?)?;
         Ok(())
     }
 
@@ -115,12 +123,12 @@ impl LineTable {
     ) -> Result<(), JsonFault>
         requires numbers { HasNumbers (value_view value.now) }
         ensures number { self.new.number ≡ self.old.number }
-        ensures read { (records : ℕ) (above : List Json) → HasRecords records above self.old → OnOk result (HasRecords records (above ++ value_view value.now ∷ []) self.new) }
-        ensures rows { (records : ℕ) (above : List Json) → HasRecords records above self.old
-            → OnOk result (AppendsRest (ended_table records above) (ended_table records (above ++ value_view value.now ∷ [])) (map fields_of rows.old.items) (map fields_of rows.new.items)) }
-        ensures fault { (records : ℕ) (above : List Json) → HasRecords records above self.old → Tells (late_fault records above number (value_view value.now)) result }
-        ensures sound { (records : ℕ) (above : List Json) → HasRecords records above self.old
-            → OnFault result (AppendsRest (ended_table records above) (streamed_table records above) (map fields_of rows.old.items) (map fields_of rows.new.items)) }
+        ensures read { (rules : LineRules) (above : List Json) → HasRecords rules above self.old → OnOk result (HasRecords rules (above ++ value_view value.now ∷ []) self.new) }
+        ensures rows { (rules : LineRules) (above : List Json) → HasRecords rules above self.old
+            → OnOk result (AppendsRest (ended_table rules above) (ended_table rules (above ++ value_view value.now ∷ [])) (map fields_of rows.old.items) (map fields_of rows.new.items)) }
+        ensures fault { (rules : LineRules) (above : List Json) → HasRecords rules above self.old → Tells (late_fault rules above number (value_view value.now)) result }
+        ensures sound { (rules : LineRules) (above : List Json) → HasRecords rules above self.old
+            → OnFault result (AppendsRest (ended_table rules above) (streamed_table rules above) (map fields_of rows.old.items) (map fields_of rows.new.items)) }
     {
         if self.left == 0 {
             return self.push_late(number, value, rows);
@@ -141,12 +149,12 @@ impl LineTable {
         line: &[u8],
         rows: &mut Vec<StringRecord>,
     ) -> Result<(), JsonFault>
-        ensures read { (records : ℕ) (above : List (List ℕ)) → HasLines records above self.old → OnOk result (HasLines records (above ++ line.now ∷ []) self.new) }
-        ensures rows { (records : ℕ) (above : List (List ℕ)) → HasLines records above self.old
-            → OnOk result (AppendsRest (ended_table records (records_on above)) (ended_table records (records_on (above ++ line.now ∷ []))) (map fields_of rows.old.items) (map fields_of rows.new.items)) }
-        ensures fault { (records : ℕ) (above : List (List ℕ)) → HasLines records above self.old → Tells (fault_behind records above line.now) result }
-        ensures sound { (records : ℕ) (above : List (List ℕ)) → HasLines records above self.old
-            → OnFault result (AppendsRest (ended_table records (records_on above)) (streamed_table records (records_on above)) (map fields_of rows.old.items) (map fields_of rows.new.items)) }
+        ensures read { (rules : LineRules) (above : List (List ℕ)) → HasLines rules above self.old → OnOk result (HasLines rules (above ++ line.now ∷ []) self.new) }
+        ensures rows { (rules : LineRules) (above : List (List ℕ)) → HasLines rules above self.old
+            → OnOk result (AppendsRest (ended_table rules (records_on above)) (ended_table rules (records_on (above ++ line.now ∷ []))) (map fields_of rows.old.items) (map fields_of rows.new.items)) }
+        ensures fault { (rules : LineRules) (above : List (List ℕ)) → HasLines rules above self.old → Tells (fault_behind rules above line.now) result }
+        ensures sound { (rules : LineRules) (above : List (List ℕ)) → HasLines rules above self.old
+            → OnFault result (AppendsRest (ended_table rules (records_on above)) (streamed_table rules (records_on above)) (map fields_of rows.old.items) (map fields_of rows.new.items)) }
     {
         let number = self.number;
         self.number = line_after(number, line);
@@ -162,8 +170,8 @@ impl LineTable {
 
     /// Appends the held rows when no line is left.
     pub(crate) fn finish(&mut self, rows: &mut Vec<StringRecord>) -> Result<(), AllocError>
-        ensures rest { (records : ℕ) (above : List Json) → HasRecords records above self.old
-            → OnOk result (AppendsRest (ended_table records above) (streamed_table records above) (map fields_of rows.old.items) (map fields_of rows.new.items)) }
+        ensures rest { (rules : LineRules) (above : List Json) → HasRecords rules above self.old
+            → OnOk result (AppendsRest (ended_table rules above) (streamed_table rules above) (map fields_of rows.old.items) (map fields_of rows.new.items)) }
     {
         if self.left == 0 {
             return Ok(());
@@ -177,8 +185,12 @@ impl LineTable {
 /// row.
 ///
 /// The fault is that of the first bad line. The only other fault is out of memory, which no bytes need.
-pub fn read_line_rows(alloc: Global, bytes: &[u8]) -> Result<Vec<StringRecord>, JsonFault>
-    ensures rows { IfOk result (λ rows. map fields_of rows.items ≡ line_rows_of bytes.now) }
+pub fn read_line_rows(
+    alloc: Global,
+    rules: &MemberRules,
+    bytes: &[u8],
+) -> Result<Vec<StringRecord>, JsonFault>
+    ensures rows { IfOk result (λ rows. map fields_of rows.items ≡ line_rows_of (rules_of rules.now) bytes.now) }
     ensures fault { Tells (line_rows_fault bytes.now) result }
     ensures nothing { bytes.now ≡ [] → IsOk result }
 {
@@ -187,7 +199,7 @@ pub fn read_line_rows(alloc: Global, bytes: &[u8]) -> Result<Vec<StringRecord>, 
     }
     let lines = lines_of(alloc, bytes)?;
     let count = lines.len();
-    let mut table = LineTable::new(alloc, count);
+    let mut table = LineTable::new(alloc, rules, count)?;
     let mut scratch = Scratch::new(alloc);
     let mut rows = Vec::new(alloc);
     for line in &lines {

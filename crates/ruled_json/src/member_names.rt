@@ -10,7 +10,7 @@ ghost use Rattle.json.specs.Find.{get, get_member};
 ghost use Rattle.json.specs.Tree.{HasNumbers};
 ghost use Rattle.json.specs.Value.{members_view, value_view};
 ghost use Rattle.ruled_json.specs.Reading.{padded};
-ghost use Rattle.ruled_json.specs.Rows.{cell_text, has_all, names_in, row_of, with_name};
+ghost use Rattle.ruled_json.specs.Rows.{cell_text, has_all, names_in, plain_rules, row_of, rules_of, with_name};
 
 use csv::StringRecord;
 use indexmap::{IndexMap, IndexSet};
@@ -67,21 +67,44 @@ fn is_text(name: &str, text: &str) -> bool
     name == text
 }
 
-// Appends the text of a member to a row.
+// Appends the text of a member to a row, this one for null.
 fn push_cell(
     alloc: Global,
     row: &mut StringRecord,
+    null: &str,
     value: Option<&Value<'_>>,
 ) -> Result<(), AllocError>
     requires numbers { IfSome value (λ v. HasNumbers (value_view v.now)) }
-    ensures { OnOk result (fields_of row.new ≡ fields_of row.old ++ cell_text (option_map (λ v. value_view v.now) value.entry) ∷ []) }
+    ensures { OnOk result (fields_of row.new ≡ fields_of row.old ++ cell_text null.now (option_map (λ v. value_view v.now) value.entry) ∷ []) }
 {
     match value {
-        None | Some(Value::Null) => row.push_field(""),
+        None => row.push_field(""),
+        Some(Value::Null) => row.push_field(null),
         Some(Value::Number(text)) | Some(Value::String(text)) => row.push_field(text),
         Some(value) => {
             let bytes = to_vec(alloc, value)?;
             row.push_field(unsafe { str::from_utf8_unchecked(&bytes) })
+        }
+    }
+}
+
+/// Where the records of JSON are, and how their members are shown.
+#[derive(Drop)]
+pub struct MemberRules {
+    /// The path of the member that has the records; without a name the value itself has them. Lines have none.
+    pub path: Vec<String>,
+    /// The text for a member that is `null`.
+    pub null: String,
+}
+
+impl MemberRules {
+    /// The records of the value itself, with no text for `null`.
+    pub fn new(alloc: Global) -> MemberRules
+        ensures { rules_of result ≡ plain_rules }
+    {
+        MemberRules {
+            path: Vec::new(alloc),
+            null: String::new(alloc),
         }
     }
 }
@@ -213,39 +236,54 @@ impl MemberNames {
     }
 
     // The row of a record of few columns.
-    fn narrow_row(&self, alloc: Global, value: &Value<'_>) -> Result<StringRecord, AllocError>
+    fn narrow_row(
+        &self,
+        alloc: Global,
+        null: &str,
+        value: &Value<'_>,
+    ) -> Result<StringRecord, AllocError>
         requires numbers { HasNumbers (value_view value.now) }
-        ensures { IfOk result (λ row. fields_of row ≡ row_of (map string_bytes self.now.names.keys) (value_view value.now)) }
+        ensures { IfOk result (λ row. fields_of row ≡ row_of null.now (map string_bytes self.now.names.keys) (value_view value.now)) }
     {
         let mut row = self.empty_row(alloc)?;
         for name in self.names.as_slice() {
-            push_cell(alloc, &mut row, value.get(name.as_str()))?;
+            push_cell(alloc, &mut row, null, value.get(name.as_str()))?;
         }
         Ok(row)
     }
 
     // The row of a record of many columns.
-    fn wide_row(&self, alloc: Global, value: &Value<'_>) -> Result<StringRecord, AllocError>
+    fn wide_row(
+        &self,
+        alloc: Global,
+        null: &str,
+        value: &Value<'_>,
+    ) -> Result<StringRecord, AllocError>
         requires numbers { HasNumbers (value_view value.now) }
-        ensures { IfOk result (λ row. fields_of row ≡ row_of (map string_bytes self.now.names.keys) (value_view value.now)) }
+        ensures { IfOk result (λ row. fields_of row ≡ row_of null.now (map string_bytes self.now.names.keys) (value_view value.now)) }
     {
         let members = members_by_name(alloc, value)?;
         let mut row = self.empty_row(alloc)?;
         for name in self.names.as_slice() {
-            push_cell(alloc, &mut row, member_named(&members, name.as_str()))?;
+            push_cell(alloc, &mut row, null, member_named(&members, name.as_str()))?;
         }
         Ok(row)
     }
 
-    /// The row of a record.
-    pub(crate) fn row(&self, alloc: Global, value: &Value<'_>) -> Result<StringRecord, AllocError>
+    /// The row of a record, with this text for null.
+    pub(crate) fn row(
+        &self,
+        alloc: Global,
+        null: &str,
+        value: &Value<'_>,
+    ) -> Result<StringRecord, AllocError>
         requires numbers { HasNumbers (value_view value.now) }
-        ensures { IfOk result (λ row. fields_of row ≡ row_of (map string_bytes self.now.names.keys) (value_view value.now)) }
+        ensures { IfOk result (λ row. fields_of row ≡ row_of null.now (map string_bytes self.now.names.keys) (value_view value.now)) }
     {
         if self.names.len() <= NARROW {
-            self.narrow_row(alloc, value)
+            self.narrow_row(alloc, null, value)
         } else {
-            self.wide_row(alloc, value)
+            self.wide_row(alloc, null, value)
         }
     }
 

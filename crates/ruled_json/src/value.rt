@@ -6,12 +6,12 @@ ghost use Rattle.json.specs.Json.{document};
 ghost use Rattle.json.specs.Tree.{HasNumbers};
 ghost use Rattle.json.specs.Value.{value_view};
 ghost use Rattle.ruled_json.specs.Faults.{Tells, but_near, first_fault, is_value, record_fault, rows_fault, text_fault, value_fault};
-ghost use Rattle.ruled_json.specs.Rows.{columns_of, member_at, records_in, rows_of, table_of};
+ghost use Rattle.ruled_json.specs.Rows.{columns_of, member_at, records_in, rows_of, rules_of, table_of};
 ghost use Rattle.ruled_json.specs.declared.fault.JsonFault.TheVariants.{Syntax};
 ghost use Rattle.ruled_json.specs.declared.place.Place.TheVariants.{Near};
 
 use crate::fault::JsonFault;
-use crate::member_names::MemberNames;
+use crate::member_names::{MemberNames, MemberRules};
 use crate::place::Place;
 use crate::walk::offset_of_bad;
 use csv::StringRecord;
@@ -115,11 +115,15 @@ fn columns_of(alloc: Global, records: &[Value<'_>]) -> Result<MemberNames, Alloc
     Ok(columns)
 }
 
-// The rows of records.
+// The rows of records, with this text for null.
 #[tactic(auto, using(crate::proofs::Views::each_has_numbers))]
-fn table_of(alloc: Global, records: &[Value<'_>]) -> Result<Vec<StringRecord>, AllocError>
+fn table_of(
+    alloc: Global,
+    null: &str,
+    records: &[Value<'_>],
+) -> Result<Vec<StringRecord>, AllocError>
     requires numbers { All HasNumbers (map value_view records.now) }
-    ensures { IfOk result (λ rows. map fields_of rows.items ≡ table_of (map value_view records.now)) }
+    ensures { IfOk result (λ rows. map fields_of rows.items ≡ table_of null.now (map value_view records.now)) }
 {
     let columns = columns_of(alloc, records)?;
     let mut rows = Vec::new(alloc);
@@ -128,30 +132,31 @@ fn table_of(alloc: Global, records: &[Value<'_>]) -> Result<Vec<StringRecord>, A
     }
     rows.push(columns.header(alloc)?)?;
     for record in records {
-        rows.push(columns.row(alloc, record)?)?;
+        rows.push(columns.row(alloc, null, record)?)?;
     }
     Ok(rows)
 }
 
-// The rows of a value.
+// The rows of a value, with this text for null.
 #[tactic(auto, using(crate::proofs::Views::records_have_numbers))]
-fn rows_in(alloc: Global, value: &Value<'_>) -> Result<Vec<StringRecord>, JsonFault>
+fn rows_in(alloc: Global, null: &str, value: &Value<'_>) -> Result<Vec<StringRecord>, JsonFault>
     requires numbers { HasNumbers (value_view value.now) }
-    ensures rows { IfOk result (λ rows. map fields_of rows.items ≡ table_of (records_in (value_view value.now))) }
+    ensures rows { IfOk result (λ rows. map fields_of rows.items ≡ table_of null.now (records_in (value_view value.now))) }
     ensures fault { Tells (value_fault (value_view value.now)) result }
 {
     let records = records_in(value)?;
-    let rows = table_of(alloc, records)?;
+    let rows = table_of(alloc, null, records)?;
     Ok(rows)
 }
 
-/// The rows of the member at `path` of a JSON value: a header, and a row for each record. The records
-/// are the objects of an array, or one object alone.
+/// The rows of a member of a JSON value: a header, and a row for each record. The records are the
+/// objects of an array, or one object alone.
 ///
 /// Each name of the path is that of a member of the one before; without a name the value itself has
 /// the records. The columns are the names of all members of records, in the order in which they first
 /// appear. A cell is the text of a string, a number as written, `true` or `false`, or an array or an
-/// object as JSON without spaces. It is empty if the record lacks the member, or has `null`. Of
+/// object as JSON without spaces. It has the text of the rules for `null`, and is empty if the record
+/// lacks the member. Of
 /// members with one name the last one counts, also in the path. If no record has a member, there are
 /// no rows.
 ///
@@ -160,11 +165,11 @@ fn rows_in(alloc: Global, value: &Value<'_>) -> Result<Vec<StringRecord>, JsonFa
 /// which no bytes need.
 pub fn read_rows(
     alloc: Global,
+    rules: &MemberRules,
     bytes: &[u8],
-    path: &[String],
 ) -> Result<Vec<StringRecord>, JsonFault>
-    ensures rows { IfOk result (λ rows. map fields_of rows.items ≡ rows_of (map string_bytes path.now) bytes.now) }
-    ensures fault { Tells (rows_fault (map string_bytes path.now) bytes.now) result }
+    ensures rows { IfOk result (λ rows. map fields_of rows.items ≡ rows_of (rules_of rules.now) bytes.now) }
+    ensures fault { Tells (rows_fault (map string_bytes rules.now.path.items) bytes.now) result }
     ensures nothing { bytes.now ≡ [] → result ≡ Err (Syntax (Near 1)) }
 {
     if bytes.is_empty() {
@@ -172,8 +177,8 @@ pub fn read_rows(
     }
     let mut scratch = Scratch::new(alloc);
     let value = value_of(alloc, &mut scratch, bytes, Place::Near(0))?;
-    match member_at(&value, path) {
-        Some(member) => rows_in(alloc, member),
+    match member_at(&value, &rules.path) {
+        Some(member) => rows_in(alloc, rules.null.as_str(), member),
         None => Err(JsonFault::NoMember),
     }
 }

@@ -1,12 +1,13 @@
 -- What is known of a database that was opened, of a statement that has shown its rows, and of the texts of these.
-use Rattle.std.proofs.Common.{◌≡◌, ◌<◌, ◌+◌, ◌∙◌, ◌∷◌, ◌++◌, ℕ, suc, [], List, length, map, take, get_or, IsTrue, true, Option, None, Some, Result, Ok, refl, sym, ap, subst, subst₂, arith}
-use Rattle.std.specs.Prelude.{slice_index_or, unwrap_or}
+use Rattle.std.proofs.Common.{◌≡◌, ◌<◌, ◌+◌, ◌∙◌, ◌∷◌, ◌++◌, ℕ, suc, [], List, length, map, take, get_or, IsTrue, true, Option, None, Some, Result, Ok, Err, refl, sym, ap, subst, subst₂, arith}
+use Rattle.std.specs.Prelude.{IfErr, slice_index_or, unwrap_or}
+use Rattle.std.specs.Str.{IsUtf8}
 use Rattle.std.proofs.lemmas.Bool.{and_from}
 use Rattle.std.proofs.lemmas.List.{get_or-map, length-map, length-take-le, map-append, map_more, take_more}
-use Rattle.csv.specs.Records.{Row as Fields, fields_of}
+use Rattle.csv.specs.Records.{AllText, Row as Fields, fields_of}
 use Rattle.sqlite_value.specs.Order.{Row, column}
 use Rattle.sqlite_value.specs.declared.value.Value.{Value}
-use Rattle.sqlite_value.specs.declared.value.Value.TheVariants.{Null}
+use Rattle.sqlite_value.specs.declared.value.Value.TheVariants.{Null, Int, Real, Text, Blob}
 use Rattle.sqlite_disk.specs.declared.Disk.{Ghosts}
 use Rattle.sqlite_trees.specs.declared.store.Store.{Ghosts as StoreGhosts}
 use Rattle.sqlite_pool.specs.Pool.{files}
@@ -26,7 +27,9 @@ use Rattle.sqlite.specs.Start.{FindsIn}
 use Rattle.sqlite.specs.State.{HasCleanDisk, IsLive, IsStatement, IsUnchanged, Opens, Shown, ShowsRows, State, Writes, mode_of, text_of}
 use Rattle.sqlite.specs.Steps.{Outlines, column_names}
 use Rattle.ruled_database.specs.Values.{shown_text}
-use Rattle.ruled_sql.specs.Answers.{Changes, IsAnswer, IsChange, IsHeld, Makes, Means, Shows, image_of, shown_rows}
+use Rattle.ruled_sql.specs.Answers.{Changes, IsAnswer, IsChange, IsFaultOfRow, IsHeld, Makes, Means, Shows, image_of, shown_rows}
+use Rattle.ruled_sql.specs.declared.fault.QueryFault.{QueryFault}
+use Rattle.ruled_sql.specs.declared.fault.QueryFault.TheVariants.{Change, Encoding, Limit, Memory, Refused}
 
 -- ---- databases
 
@@ -123,28 +126,49 @@ taken {X} xs i x y old new within is pushed same before =
     ∙ sym (take_more xs i x within)
 
 -- one value more of a row
-pub value_more : (values : Row) (i : ℕ) (value : Value) (old new : List (List ℕ)) → i < length values → value ≡ column values i → new ≡ old ++ shown_text value ∷ []
-    → old ≡ map shown_text (take i values) → new ≡ map shown_text (take (i + 1) values)
-value_more values i value old new within is pushed before =
+pub value_more : (null_text : List ℕ) (values : Row) (i : ℕ) (value : Value) (old new : List (List ℕ)) → i < length values → value ≡ column values i → new ≡ old ++ shown_text null_text value ∷ []
+    → old ≡ map (shown_text null_text) (take i values) → new ≡ map (shown_text null_text) (take (i + 1) values)
+value_more null_text values i value old new within is pushed before =
     pushed
-    ∙ ap (λ (texts : List (List ℕ)). texts ++ shown_text value ∷ []) before
-    ∙ ap (λ (v : Value). map shown_text (take i values) ++ shown_text v ∷ []) is
-    ∙ sym (map_more shown_text values i Null within)
+    ∙ ap (λ (texts : List (List ℕ)). texts ++ shown_text null_text value ∷ []) before
+    ∙ ap (λ (v : Value). map (shown_text null_text) (take i values) ++ shown_text null_text v ∷ []) is
+    ∙ sym (map_more (shown_text null_text) values i Null within)
 
 -- one row more of an answer
-pub row_more : (names : List (List ℕ)) (answer : List Row) (i : ℕ) (x : Row) (rows : List Fields) (fields : Fields) → i < length answer → x ≡ get_or answer i x
-    → fields_of fields ≡ map shown_text x → map fields_of rows ≡ shown_rows names (take i answer) → map fields_of (rows ++ fields ∷ []) ≡ shown_rows names (take (i + 1) answer)
-row_more names answer i x rows fields within is made before =
+pub row_more : (null_text : List ℕ) (names : List (List ℕ)) (answer : List Row) (i : ℕ) (x : Row) (rows : List Fields) (fields : Fields) → i < length answer → x ≡ get_or answer i x
+    → fields_of fields ≡ map (shown_text null_text) x → map fields_of rows ≡ shown_rows null_text names (take i answer)
+    → map fields_of (rows ++ fields ∷ []) ≡ shown_rows null_text names (take (i + 1) answer)
+row_more null_text names answer i x rows fields within is made before =
     map-append fields_of rows (fields ∷ [])
     ∙ ap (λ (texts : List (List (List ℕ))). texts ++ fields_of fields ∷ []) before
-    ∙ ap (λ (text : List (List ℕ)). shown_rows names (take i answer) ++ text ∷ []) made
-    ∙ ap (λ (y : Row). shown_rows names (take i answer) ++ map shown_text y ∷ []) is
-    ∙ ap (λ (texts : List (List (List ℕ))). names ∷ texts) (sym (map_more (map shown_text) answer i x within))
+    ∙ ap (λ (text : List (List ℕ)). shown_rows null_text names (take i answer) ++ text ∷ []) made
+    ∙ ap (λ (y : Row). shown_rows null_text names (take i answer) ++ map (shown_text null_text) y ∷ []) is
+    ∙ ap (λ (texts : List (List (List ℕ))). names ∷ texts) (sym (map_more (map (shown_text null_text)) answer i x within))
 
 -- a row of texts behind so many others, and behind the names
-pub row-at : (names : List (List ℕ)) (answer : List Row) (i : ℕ) (x : Row) (rows : List Fields) (n : ℕ) → i < length answer → x ≡ get_or answer i x → map fields_of rows ≡ shown_rows names (take i answer) → n ≡ length rows
-    → map shown_text x ≡ slice_index_or (shown_rows names answer) n []
-row-at names answer i x rows n within is before long =
-    let some : length (map fields_of rows) ≡ suc (length (map (map shown_text) (take i answer))) = ap length before in
-    let count : n ≡ suc i = omega (arith, long, some, length-map rows fields_of, length-map (take i answer) (map shown_text), length-take-le i answer (omega (arith, within))) in
-    ap (map shown_text) is ∙ sym (get_or-map (map shown_text) answer i x [] within) ∙ ap (λ (k : ℕ). slice_index_or (shown_rows names answer) k []) (sym count)
+pub row-at : (word null_text : List ℕ) (names : List (List ℕ)) (answer : List Row) (i : ℕ) (x : Row) (rows : List Fields) (n : ℕ) → i < length answer → x ≡ get_or answer i x → map fields_of rows ≡ shown_rows word names (take i answer) → n ≡ length rows
+    → map (shown_text null_text) x ≡ slice_index_or (shown_rows null_text names answer) n []
+row-at word null_text names answer i x rows n within is before long =
+    let some : length (map fields_of rows) ≡ suc (length (map (map (shown_text word)) (take i answer))) = ap length before in
+    let count : n ≡ suc i = omega (arith, long, some, length-map rows fields_of, length-map (take i answer) (map (shown_text word)), length-take-le i answer (omega (arith, within))) in
+    ap (map (shown_text null_text)) is ∙ sym (get_or-map (map (shown_text null_text)) answer i x [] within) ∙ ap (λ (k : ℕ). slice_index_or (shown_rows null_text names answer) k []) (sym count)
+
+-- where all texts are UTF-8, they are with any text of NULL
+pub all-texts : (null_text : List ℕ) → IsUtf8 null_text → (values : Row) → AllText (map (shown_text []) values) → AllText (map (shown_text null_text) values)
+unfolding AllText
+all-texts null_text is [] all = all
+all-texts null_text is (Null ∷ values) all = (is, all-texts null_text is values all.1)
+all-texts null_text is (Int n ∷ values) all = (all.0, all-texts null_text is values all.1)
+all-texts null_text is (Real x ∷ values) all = (all.0, all-texts null_text is values all.1)
+all-texts null_text is (Text bytes ∷ values) all = (all.0, all-texts null_text is values all.1)
+all-texts null_text is (Blob bytes ∷ values) all = (all.0, all-texts null_text is values all.1)
+
+-- so texts that aren't are none without it
+pub texts-lack : {X : Type 0} (row : ℕ) (null_text : List ℕ) → IsUtf8 null_text → (values : Row) (result : Result X QueryFault) → IfErr result (IsFaultOfRow row (map (shown_text null_text) values))
+    → IfErr result (IsFaultOfRow row (map (shown_text []) values))
+texts-lack row null_text is values (Ok x) lacks = tt
+texts-lack row null_text is values (Err (Refused error)) lacks = lacks
+texts-lack row null_text is values (Err (Limit most)) lacks = lacks
+texts-lack row null_text is values (Err Change) lacks = lacks
+texts-lack row null_text is values (Err (Encoding at)) lacks = (lacks.0, λ all. lacks.1 (all-texts null_text is values all))
+texts-lack row null_text is values (Err Memory) lacks = lacks

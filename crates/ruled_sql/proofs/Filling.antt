@@ -171,7 +171,7 @@ module _ (name called : List ℕ) (table : List (List (List ℕ))) (query : List
     lacks-answer fault lacks = lacks-by fault lacks (names_no_table fault) refl
 
     -- an answer that isn't UTF-8
-    pub lacks-text : (names : List (List ℕ)) (answer : List Row) → IsAnswer query most (state over_memory connection).now names answer → (fault : QueryFault) → LacksText (shown_rows names answer) fault
+    pub lacks-text : (names : List (List ℕ)) (answer : List Row) → IsAnswer query most (state over_memory connection).now names answer → (fault : QueryFault) → LacksText (shown_rows [] names answer) fault
         → LacksQueried name table query most (sql.Query fault)
     lacks-text names answer is (Refused error) lacks = absurd lacks
     lacks-text names answer is (Limit steps) lacks = absurd lacks

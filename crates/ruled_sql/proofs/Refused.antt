@@ -202,7 +202,7 @@ module _ (query : List ℕ) (steps : ℕ) (old new : State) (error : Error) (fau
   unanswered limited (inr h) = unshown limited h.0 h.1 h.0.returning refl h.2
 
 -- an answer that isn't UTF-8
-pub unshown-lacks : (bytes query : List ℕ) (steps : ℕ) (db : Database) → IsHeld bytes db → (names : List (List ℕ)) (answer : List Row) → IsAnswer query steps db names answer → (fault : QueryFault) → LacksText (shown_rows names answer) fault
+pub unshown-lacks : (bytes query : List ℕ) (steps : ℕ) (db : Database) → IsHeld bytes db → (names : List (List ℕ)) (answer : List Row) → IsAnswer query steps db names answer → (fault : QueryFault) → LacksText (shown_rows [] names answer) fault
     → LacksRows bytes query steps (sql.Query fault)
 unshown-lacks bytes query steps db held names answer is (Refused error) lacks = absurd lacks
 unshown-lacks bytes query steps db held names answer is (Limit most) lacks = absurd lacks

@@ -72,18 +72,18 @@ pub record IsAnswer (query : List ℕ) (steps : ℕ) (db : Database) (names : Li
 
 -- ---- texts
 
--- rows of texts, of which the names are row 0
-abbrev pub shown_rows : List (List ℕ) → List Row → List (List (List ℕ))
-shown_rows names rows = names ∷ map (map shown_text) rows
+-- rows of texts, of which the names are row 0, with this text for NULL
+abbrev pub shown_rows : List ℕ → List (List ℕ) → List Row → List (List (List ℕ))
+shown_rows null_text names rows = names ∷ map (map (shown_text null_text)) rows
 
 -- the rows that a query answers of the database that bytes hold, in so many steps at most
-pub record AreAnswered (bytes query : List ℕ) (steps : ℕ) (rows : List (List (List ℕ))) : Type 0 where
+pub record AreAnswered (bytes query : List ℕ) (steps : ℕ) (null_text : List ℕ) (rows : List (List (List ℕ))) : Type 0 where
   pub database : Database
   pub held : IsHeld bytes database
   pub names : List (List ℕ)
   pub answer : List Row
   pub is : IsAnswer query steps database names answer
-  pub shown : rows ≡ shown_rows names answer
+  pub shown : rows ≡ shown_rows null_text names answer
 
 -- ---- why there is no answer
 
@@ -118,7 +118,7 @@ IsRefused query steps db error = IsNoQuery query db error ⊎ ((c : Compiled) ×
 abbrev pub IsChange : List ℕ → ℕ → Database → Type 0
 IsChange query steps db = (c : Compiled) × Means query db c × (time : ℕ) × Changes query steps db c (timed [] c.formats time)
 
--- a row isn't UTF-8
+-- a row isn't UTF-8, whatever is shown for NULL
 abbrev pub LacksText : List (List (List ℕ)) → QueryFault → Type 0
 LacksText rows (Encoding row) = ¬ AllText (slice_index_or rows row [])
 LacksText rows Memory = ⊤
@@ -135,7 +135,7 @@ abbrev pub LacksAnswer : List ℕ → ℕ → Database → QueryFault → Type 0
 LacksAnswer query steps db (Refused error) = IsRefused query steps db error
 LacksAnswer query steps db (Limit most) = (most ≡ steps) × IsRefused query steps db (SqliteFailure code.OperationInterrupted)
 LacksAnswer query steps db Change = IsChange query steps db
-LacksAnswer query steps db (Encoding row) = (names : List (List ℕ)) × (answer : List Row) × IsAnswer query steps db names answer × LacksText (shown_rows names answer) (Encoding row)
+LacksAnswer query steps db (Encoding row) = (names : List (List ℕ)) × (answer : List Row) × IsAnswer query steps db names answer × LacksText (shown_rows [] names answer) (Encoding row)
 LacksAnswer query steps db Memory = ⊤
 
 -- why bytes aren't opened as a database, unless memory was refused

@@ -187,7 +187,7 @@ abbrev pub IsCalled : List ℕ → List (List (List ℕ)) → List ℕ → List 
 IsCalled name table query called = IsCalledBy (take 1 (steps name table)) name query called
 
 -- the rows that a query answers of a table of rows, which has this name or is called `input`, in so many steps at most
-pub record AreQueried (name : List ℕ) (table : List (List (List ℕ))) (query : List ℕ) (most : ℕ) (rows : List (List (List ℕ))) : Type 0 where
+pub record AreQueried (name : List ℕ) (table : List (List (List ℕ))) (query : List ℕ) (most : ℕ) (null_text : List ℕ) (rows : List (List (List ℕ))) : Type 0 where
   pub called : List ℕ
   pub either : IsCalled name table query called
   pub connection : Held MemStore
@@ -195,7 +195,7 @@ pub record AreQueried (name : List ℕ) (table : List (List (List ℕ))) (query 
   pub names : List (List ℕ)
   pub answer : List Row
   pub is : IsAnswer query most (state over_memory connection).now names answer
-  pub shown : rows ≡ shown_rows names answer
+  pub shown : rows ≡ shown_rows null_text names answer
 
 -- ---- why it answers none
 

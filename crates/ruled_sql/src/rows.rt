@@ -41,29 +41,39 @@ fn header_of(alloc: Global, names: &[Bytes]) -> Result<StringRecord, QueryFault>
     row_of(texts, 0)
 }
 
-// The values of a row.
-fn fields_in(alloc: Global, row: usize, values: &Row) -> Result<StringRecord, QueryFault>
-    ensures fields { IfOk result (λ fields. fields_of fields ≡ map shown_text values.now) }
-    ensures fault { IfErr result (IsFaultOfRow row (map shown_text values.now)) }
+// The values of a row, with this text for NULL.
+fn fields_in(
+    alloc: Global,
+    null: &str,
+    row: usize,
+    values: &Row,
+) -> Result<StringRecord, QueryFault>
+    ensures fields { IfOk result (λ fields. fields_of fields ≡ map (shown_text null.now) values.now) }
+    ensures fault { IfErr result (IsFaultOfRow row (map (shown_text []) values.now)) }
 {
     let mut texts = ByteRecord::new(alloc);
     for at in 0..values.column_count() {
         let value = values.get_ref(at).unwrap();
-        push_value(alloc, &mut texts, value)?;
+        push_value(alloc, &mut texts, null.as_bytes(), value)?;
     }
     row_of(texts, row)
 }
 
-// The rows of an answer, with the names of the columns as row 0.
-fn rows_in(alloc: Global, names: &[Bytes], answer: &[Row]) -> Result<Vec<StringRecord>, QueryFault>
-    ensures rows { IfOk result (λ rows. map fields_of rows.items ≡ shown_rows names.now answer.now) }
-    ensures fault { IfErr result (LacksText (shown_rows names.now answer.now)) }
+// The rows of an answer, with the names of the columns as row 0, and this text for NULL.
+fn rows_in(
+    alloc: Global,
+    null: &str,
+    names: &[Bytes],
+    answer: &[Row],
+) -> Result<Vec<StringRecord>, QueryFault>
+    ensures rows { IfOk result (λ rows. map fields_of rows.items ≡ shown_rows null.now names.now answer.now) }
+    ensures fault { IfErr result (LacksText (shown_rows [] names.now answer.now)) }
 {
     let mut rows = Vec::new(alloc);
     let header = header_of(alloc, names)?;
     rows.push(header)?;
     for values in answer {
-        let fields = fields_in(alloc, rows.len(), values)?;
+        let fields = fields_in(alloc, null, rows.len(), values)?;
         rows.push(fields)?;
     }
     Ok(rows)
@@ -73,21 +83,22 @@ fn rows_in(alloc: Global, names: &[Bytes], answer: &[Row]) -> Result<Vec<StringR
 /// columns as row 0.
 ///
 /// Each row that the query reads or returns is a step; one that takes more of them than given is refused.
-/// A value is shown as by [`push_value`]. The query is one statement without parameters that changes nothing.
+/// A value is shown as by [`push_value`], NULL as `null`. The query is one statement without parameters that changes nothing.
 /// Rows in a log beside the file aren't seen: [`ruled_database::keeps_log`] says whether there may be a log.
 pub fn query_rows(
     alloc: Global,
     bytes: &[u8],
     query: &str,
     steps: u64,
+    null: &str,
 ) -> Result<Vec<StringRecord>, SqlFault>
-    ensures rows { IfOk result (λ rows. AreAnswered bytes.now query.now steps (map fields_of rows.items)) }
+    ensures rows { IfOk result (λ rows. AreAnswered bytes.now query.now steps null.now (map fields_of rows.items)) }
     ensures none { result ≡ Err Database → HoldsNone bytes.now }
     ensures fault { IfErr result (LacksRows bytes.now query.now steps) }
 {
     let mut connection = open(alloc, bytes)?;
     let answer = answer_of(&mut connection, query, steps)?;
-    let rows = rows_in(alloc, answer.statement.column_names(), &answer.rows)?;
+    let rows = rows_in(alloc, null, answer.statement.column_names(), &answer.rows)?;
     Ok(rows)
 }
 
@@ -114,8 +125,9 @@ pub fn query_table(
     rows: &[StringRecord],
     query: &str,
     steps: u64,
+    null: &str,
 ) -> Result<Vec<StringRecord>, SqlFault>
-    ensures rows { IfOk result (λ answer. AreQueried name.now (map fields_of rows.now) query.now steps (map fields_of answer.items)) }
+    ensures rows { IfOk result (λ answer. AreQueried name.now (map fields_of rows.now) query.now steps null.now (map fields_of answer.items)) }
     ensures none { result ≡ Err NoRows → rows.now ≡ [] }
     ensures fault { IfErr result (LacksQueried name.now (map fields_of rows.now) query.now steps) }
 {
@@ -129,6 +141,6 @@ pub fn query_table(
         Ok(found) => found,
         Err(fault) => return Err(fault_of_table(fault)),
     };
-    let rows = rows_in(alloc, found.statement.column_names(), &found.rows)?;
+    let rows = rows_in(alloc, null, found.statement.column_names(), &found.rows)?;
     Ok(rows)
 }

@@ -7,6 +7,6 @@ use Rattle.ruled_database.proofs.table.read_texts.Given as goal
 
 abbrev pub invariant-loop-column : goal.invariant-loop-column
 invariant-loop-column l = record {
-  fields : fields_of l.texts ≡ map (λ (it : Column). shown_text (value_in l.definition l.key l.values it)) (take l.column-index l.column-items);
+  fields : fields_of l.texts ≡ map (λ (it : Column). shown_text l.definition.null (value_in l.definition l.key l.values it)) (take l.column-index l.column-items);
   partial : partial_of l.texts ≡ [];
 }

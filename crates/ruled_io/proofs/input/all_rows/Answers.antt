@@ -17,9 +17,9 @@ returns-then-is_database-clause-cause c =
 pub returns-clause-rows : goal.returns-clause-rows
 returns-clause-rows c =
     let other : holds_database c.args.source.now c.args.bytes.now ≡ false = sym c.is_database.ensures ∙ c.if-is_database.false in
-    held_rows (λ rows. map fields_of rows.items) c.args.source.now c.args.bytes.now (map string_bytes c.path.result.now) c.known.result c.path.ensures c.known.ensures other c.rows_in.result c.rows_in.ensures.rows c.rows_in.ensures.fault
+    held_rows (λ rows. map fields_of rows.items) c.args.source.now c.args.bytes.now (rules_of c.members_or.result.now) c.known.result c.members_or.ensures c.known.ensures other c.rows_in.result c.rows_in.ensures.rows c.rows_in.ensures.fault
 
 pub returns-clause-cause : goal.returns-clause-cause
 returns-clause-cause c =
     let other : holds_database c.args.source.now c.args.bytes.now ≡ false = sym c.is_database.ensures ∙ c.if-is_database.false in
-    lacking_rows (λ rows. map fields_of rows.items) c.args.source.now c.args.bytes.now (map string_bytes c.path.result.now) c.known.result c.path.ensures c.known.ensures other c.rows_in.result c.rows_in.ensures.fault
+    lacking_rows (λ rows. map fields_of rows.items) c.args.source.now c.args.bytes.now (rules_of c.members_or.result.now) c.known.result c.members_or.ensures c.known.ensures other c.rows_in.result c.rows_in.ensures.fault

@@ -1,8 +1,9 @@
-use Rattle.std.proofs.Common.{◌≡◌, ◌∙◌, ◌++◌, ℕ, List, Option, Result, Err, false, true, refl, sym, ap, subst}
+use Rattle.std.proofs.Common.{◌≡◌, ◌∙◌, ◌++◌, ℕ, List, Option, Result, Err, false, true, refl, sym, ap, subst₂}
+use Rattle.ruled_json.specs.Rows.{Rules}
 use Rattle.ruled_io.specs.Formats.{content_of, format_streamed}
 use Rattle.ruled_io.specs.Reading.{ReadsFront, sound_rows, wrong_in}
 use Rattle.ruled_io.specs.Requests.{format_told, holds_database}
-use Rattle.ruled_io.specs.Stream.{Ends, StreamsAll, first_count, record_count, streamed_count, streamed_rows, streamed_wrong}
+use Rattle.ruled_io.specs.Stream.{Ends, StreamsAll, first_count, line_rules, streamed_count, streamed_rows, streamed_wrong}
 use Rattle.ruled_io.specs.declared.fault.InputFault.TheVariants.{Stream}
 use Rattle.ruled_io.specs.declared.fault.RunFault.{RunFault}
 use Rattle.ruled_io.specs.declared.fault.RunFault.TheVariants.{Input}
@@ -50,7 +51,8 @@ returns-clause-ends g c =
     let content : c.content_of-content.result.now ≡ content_of format front = c.content_of-content.ensures ∙ ap (content_of format) c.deref-3.ensures.value in
     if-more {P = λ all. ReadsFront request.source all left front} {Q = λ bytes. StreamsAll request count bytes old new result} (g.R.Read.remaining c.args.pieces.now.input) c.in_ok-front.ensures.read
     (λ bytes is reads.
-    let ends = subst (λ (xs : List ℕ). Ends request.view (first_count request.view format count) (sound_rows format (record_count count) (xs ++ reads.0)) (wrong_in format (record_count count) (xs ++ reads.0)) old new result) content
+    let ends = subst₂ (λ (members : Rules) (xs : List ℕ).
+    Ends request.view (first_count request.view format count) (sound_rows format (line_rules count members) (xs ++ reads.0)) (wrong_in format (line_rules count members) (xs ++ reads.0)) old new result) c.members_or-members.ensures content
     (c.show_rows.ensures.ends reads.0 reads.2)
     in
     rows-end-so request count front reads.0 bytes format old new result reads.1 reads.3 none shown ends)

@@ -1,6 +1,7 @@
 use Rattle.std.proofs.Common.{◌≡◌, ℕ, List, None, ◌++◌, map}
 use Rattle.csv.specs.Records.{fields_of}
 use Rattle.pg_layout.specs.Text.{Text}
+use Rattle.ruled_json.specs.Streamed.{LineRules}
 use Rattle.ruled_table.specs.Appended.{HasAppended}
 use Rattle.ruled_table.specs.Plans.{Plan}
 use Rattle.ruled_io.specs.Output.{failure_of}
@@ -12,7 +13,7 @@ use Rattle.ruled_io.proofs.stream.write_table.Given as goal
 
 abbrev pub invariant-loop : goal.invariant-loop
 invariant-loop g l =
-    ((options : Options) (plan : Plan) (format : Format) (records : ℕ) (all : List ℕ) (above : List (List Text))
+    ((options : Options) (plan : Plan) (format : Format) (records : LineRules) (all : List ℕ) (above : List (List Text))
     → Stands format records all (g.R.Read.remaining l.fn.pieces.input) (above ++ map fields_of l.fn.rows.items) l.fn.reading → HasAppended options plan above l.fn.table
     → Runs options plan format records all above (g.R.Read.remaining l.pieces.input) l.reading (map fields_of l.rows.items) l.table (g.W.Write.contents l.fn.out.writer) (g.W.Write.contents l.out.writer))
     × (failure_of l.fn.out ≡ None → failure_of l.out ≡ None)

@@ -3,8 +3,8 @@ use Rattle.std.proofs.lemmas.List.{nil_from_length}
 use Rattle.csv.specs.Records.{fields_of}
 use Rattle.ruled_json.specs.Faults.{but_line, line_rows_fault}
 use Rattle.ruled_json.specs.Reading.{AppendsRest, HasLines}
-use Rattle.ruled_json.specs.Rows.{line_rows_of, records_on}
-use Rattle.ruled_json.specs.Streamed.{ended_table, first_fault_behind, streamed_table}
+use Rattle.ruled_json.specs.Rows.{line_rows_of, records_on, rules_of}
+use Rattle.ruled_json.specs.Streamed.{LineRules, ended_table, first_fault_behind, streamed_table}
 use Rattle.ruled_json.proofs.AtOnce.{all-texts, bad-at, next-lines, next-rows, texts, whole-fault, whole-rows}
 use Rattle.ruled_json.proofs.StreamedLines.{all-right}
 use Rattle.ruled_json.proofs.Tables.{no-table}
@@ -14,18 +14,18 @@ use Rattle.ruled_json.proofs.line_table.read_line_rows.Goals as goal
 pub returns-then-is_empty-clause-rows : goal.returns-then-is_empty-clause-rows
 unfolding line_rows_of
 returns-then-is_empty-clause-rows c =
-    ap (map fields_of) c.new.ensures.items ∙ sym (ap line_rows_of (nil_from_length c.args.bytes.now (eqb-true _ 0 (sym c.is_empty.ensures ∙ c.if-is_empty.true))))
+    ap (map fields_of) c.new.ensures.items ∙ sym (ap (line_rows_of (rules_of c.args.rules.now)) (nil_from_length c.args.bytes.now (eqb-true _ 0 (sym c.is_empty.ensures ∙ c.if-is_empty.true))))
 
 pub returns-then-is_empty-clause-fault : goal.returns-then-is_empty-clause-fault
 unfolding line_rows_fault
 returns-then-is_empty-clause-fault c = ap line_rows_fault (nil_from_length c.args.bytes.now (eqb-true _ 0 (sym c.is_empty.ensures ∙ c.if-is_empty.true)))
 
 pub loop-line-init : goal.loop-line-init
-loop-line-init c = (c.new-table.ensures, ap (map fields_of) c.new-rows.ensures.items ∙ sym (no-table c.len-count.result))
+loop-line-init c = (c.in_ok-table.ensures, ap (map fields_of) c.new-rows.ensures.items ∙ sym (no-table (record { records = c.len-count.result; members = rules_of c.args.rules.now })))
 
 pub loop-line-preserved : goal.loop-line-preserved
 loop-line-preserved c =
-    let k = c.len-count.result in
+    let k : LineRules = record { records = c.len-count.result; members = rules_of c.args.rules.now } in
     let lines = c.deref-line-items.result.now in
     let i = c.loop-line.line-index in
     let above = texts (take i lines) in
@@ -36,12 +36,12 @@ loop-line-preserved c =
 
 pub returns-in_err-read-clause-fault : goal.returns-in_err-read-clause-fault
 returns-in_err-read-clause-fault c =
-    let k = c.len-count.result in
+    let k : LineRules = record { records = c.len-count.result; members = rules_of c.args.rules.now } in
     let lines = c.deref-line-items.result.now in
     let i = c.loop-line.line-index in
     let fault = c.in_err-read.field-0.0 in
     let has = c.loop-line.invariant.0 in
-    let count : k ≡ length lines = omega (arith, c.len-count.ensures, c.in_ok-lines.lines.ok.0, ap length c.deref-line-items.ensures.value) in
+    let count : k.records ≡ length lines = omega (arith, c.len-count.ensures, c.in_ok-lines.lines.ok.0, ap length c.deref-line-items.ensures.value) in
     handed_on (line_rows_fault c.args.bytes.now) fault c.from_residual-in_err-read.result
     (λ counts.
     whole-fault k lines c.args.bytes.now count (ap texts c.deref-line-items.ensures.value ∙ c.in_ok-lines.ensures)
@@ -50,13 +50,13 @@ returns-in_err-read-clause-fault c =
 
 pub returns-clause-rows : goal.returns-clause-rows
 returns-clause-rows c =
-    let k = c.len-count.result in
+    let k : LineRules = record { records = c.len-count.result; members = rules_of c.args.rules.now } in
     let lines = c.deref-line-items.result.now in
     let i = c.loop-line.line-index in
     let old = map fields_of c.loop-line.rows.items in
     let rows = map fields_of c.finish.new.rows.items in
     let all = all-texts lines i (omega arith) in
-    let count : k ≡ length lines = omega (arith, c.len-count.ensures, c.in_ok-lines.lines.ok.0, ap length c.deref-line-items.ensures.value) in
+    let count : k.records ≡ length lines = omega (arith, c.len-count.ensures, c.in_ok-lines.lines.ok.0, ap length c.deref-line-items.ensures.value) in
     let is : old ≡ ended_table k (records_on (texts lines)) = c.loop-line.invariant.1 ∙ ap (λ (ls : List (List ℕ)). ended_table k (records_on ls)) all in
     let rest : AppendsRest (ended_table k (records_on (texts lines))) (streamed_table k (records_on (texts lines))) old rows =
     subst (λ (ls : List (List ℕ)). AppendsRest (ended_table k (records_on ls)) (streamed_table k (records_on ls)) old rows) all
@@ -65,9 +65,9 @@ returns-clause-rows c =
 
 pub returns-clause-fault : goal.returns-clause-fault
 returns-clause-fault c =
-    let k = c.len-count.result in
+    let k : LineRules = record { records = c.len-count.result; members = rules_of c.args.rules.now } in
     let lines = c.deref-line-items.result.now in
     let i = c.loop-line.line-index in
-    let count : k ≡ length lines = omega (arith, c.len-count.ensures, c.in_ok-lines.lines.ok.0, ap length c.deref-line-items.ensures.value) in
+    let count : k.records ≡ length lines = omega (arith, c.len-count.ensures, c.in_ok-lines.lines.ok.0, ap length c.deref-line-items.ensures.value) in
     whole-fault k lines c.args.bytes.now count (ap texts c.deref-line-items.ensures.value ∙ c.in_ok-lines.ensures)
     ∙ ap (first_fault_behind k []) (sym (all-texts lines i (omega arith))) ∙ all-right k (texts (take i lines)) c.loop-line.table c.loop-line.invariant.0

@@ -7,4 +7,4 @@ use Rattle.ruled_json.proofs.value.table_of.Given as goal
 abbrev pub invariant-loop-record : goal.invariant-loop-record
 invariant-loop-record l =
     let columns = map string_bytes l.columns.names.keys in
-    map fields_of l.rows.items ≡ columns ∷ map (row_of columns) (map value_view (take l.record-index l.records))
+    map fields_of l.rows.items ≡ columns ∷ map (row_of l.null columns) (map value_view (take l.record-index l.records))

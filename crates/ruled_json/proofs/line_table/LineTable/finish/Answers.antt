@@ -1,4 +1,4 @@
-use Rattle.std.proofs.Common.{◌≡◌, ◌<◌, ◌++◌, arith, map}
+use Rattle.std.proofs.Common.{◌≡◌, ◌<◌, ◌++◌, arith, map, string_bytes}
 use Rattle.csv.specs.Records.{fields_of}
 use Rattle.ruled_json.specs.Reading.{AppendsRest, columns_in}
 use Rattle.ruled_json.specs.Rows.{table_in}
@@ -17,6 +17,6 @@ returns c = record {
       let old = map fields_of c.args.rows.now.items in
       let new = map fields_of c.push_held.new.rows.items in
       let some : 0 < t.left = omega arith in
-      on-ok c.push_held.result (new ≡ old ++ table_in (columns_in t) above) (AppendsRest (ended_table k above) (streamed_table k above) old new) (rest-held k above t old new has some)
-      (c.push_held.ensures.rows above (has.held some));
+      on-ok c.push_held.result (new ≡ old ++ table_in (string_bytes t.null) (columns_in t) above) (AppendsRest (ended_table k above) (streamed_table k above) old new) (rest-held k above t old new has some)
+      (c.push_held.ensures.rows (string_bytes t.null) above (has.held some));
 }

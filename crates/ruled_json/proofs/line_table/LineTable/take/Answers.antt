@@ -1,4 +1,4 @@
-use Rattle.std.proofs.Common.{◌≡◌, ◌<◌, ◌-◌, ◌∷◌, ◌++◌, ℕ, [], ap, arith, map}
+use Rattle.std.proofs.Common.{◌≡◌, ◌<◌, ◌-◌, ◌∷◌, ◌++◌, ℕ, [], ap, arith, map, string_bytes}
 use Rattle.std.proofs.lemmas.List.{length-append}
 use Rattle.csv.specs.Records.{fields_of}
 use Rattle.json.specs.Value.{value_view}
@@ -15,7 +15,7 @@ returns-then-self-eq0-clause-rows c = λ k above has.
     let v = value_view c.args.value.now in
     let old = map fields_of c.args.rows.now.items in
     let new = map fields_of c.push_late.new.rows.items in
-    on-ok c.push_late.result (AppendsRest (table_in (columns_in t) above) (table_in (columns_in t) (above ++ v ∷ [])) old new)
+    on-ok c.push_late.result (AppendsRest (table_in (string_bytes t.null) (columns_in t) above) (table_in (string_bytes t.null) (columns_in t) (above ++ v ∷ [])) old new)
     (AppendsRest (ended_table k above) (ended_table k (above ++ v ∷ [])) old new) (late-rows k above v t old new has (omega arith)) (c.push_late.ensures.rows above)
 
 pub returns-in_ok-push_held-clause-rows : goal.returns-in_ok-push_held-clause-rows
@@ -29,14 +29,15 @@ returns-in_ok-push_held-clause-rows c = λ k above has.
     let more = length-append above (v ∷ []) in
     let none : left_of k (above ++ v ∷ []) ≡ 0 = omega arith in
     let still : 0 < left_of k above = omega arith in
-    all-rows k above (columns_in held) v (map fields_of c.args.rows.now.items) (map fields_of c.push_held.new.rows.items) still none
-    (grown-columns k above v t held has some c.in_ok-hold.ensures.columns)
-    (c.in_ok-push_held.ensures.rows (above ++ v ∷ []) (first-held k above v t held has some c.in_ok-hold.ensures.columns c.in_ok-hold.ensures.held))
+    all-rows k above (string_bytes t.null) (columns_in held) v (map fields_of c.args.rows.now.items) (map fields_of c.push_held.new.rows.items) still none
+    (grown-columns k above v t held has some c.in_ok-hold.ensures.columns) has.null_text
+    (c.in_ok-push_held.ensures.rows (string_bytes t.null) (above ++ v ∷ []) (first-held k above v t held has some c.in_ok-hold.ensures.columns c.in_ok-hold.ensures.held))
 
 pub returns-else-self-eq0-2-clause-read : goal.returns-else-self-eq0-2-clause-read
 returns-else-self-eq0-2-clause-read c = λ k above has.
     let some : 0 < c.args.self.now.left = omega arith in
     first-records k above (value_view c.args.value.now) c.args.self.now _ has some (ap (λ (n : ℕ). n - 1) c.in_ok-hold.ensures.kept.0) c.in_ok-hold.ensures.columns
+    c.in_ok-hold.ensures.kept.2
     (λ _. c.in_ok-hold.ensures.held)
 
 pub returns-else-self-eq0-2-clause-rows : goal.returns-else-self-eq0-2-clause-rows

@@ -12,5 +12,5 @@ push_cell-requires c = record {
 
 pub returns : goal.returns
 returns c =
-    whole_row c.args.self.now.names.keys c.as_slice-name-items.result.now (value_view c.args.value.now) c.loop-name.name-index (fields_of c.loop-name.row)
+    whole_row c.args.null.now c.args.self.now.names.keys c.as_slice-name-items.result.now (value_view c.args.value.now) c.loop-name.name-index (fields_of c.loop-name.row)
     c.as_slice-name-items.ensures.keys (omega arith) c.loop-name.invariant

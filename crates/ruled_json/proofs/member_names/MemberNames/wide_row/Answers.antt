@@ -19,11 +19,11 @@ loop-name-preserved c =
     let x = c.name-item.result in
     let text : c.as_str.result.now ≡ string_bytes x = search rules in
     let found = ap (option_map (λ v. value_view v.now)) c.member_named.ensures ∙ c.in_ok-members.ensures c.as_str.result.now in
-    made_next (λ name. cell_text (get (string_bytes name) value)) c.as_slice-name-items.result.now c.loop-name.name-index x
+    made_next (λ name. cell_text c.args.null.now (get (string_bytes name) value)) c.as_slice-name-items.result.now c.loop-name.name-index x
     (fields_of c.loop-name.row) (fields_of c.push_cell.new.row) _ (omega arith) c.name-item.is c.in_ok-push_cell.ensures
-    (ap cell_text found ∙ ap (λ name. cell_text (get name value)) text) c.loop-name.invariant
+    (ap (cell_text c.args.null.now) found ∙ ap (λ name. cell_text c.args.null.now (get name value)) text) c.loop-name.invariant
 
 pub returns : goal.returns
 returns c =
-    whole_row c.args.self.now.names.keys c.as_slice-name-items.result.now (value_view c.args.value.now) c.loop-name.name-index (fields_of c.loop-name.row)
+    whole_row c.args.null.now c.args.self.now.names.keys c.as_slice-name-items.result.now (value_view c.args.value.now) c.loop-name.name-index (fields_of c.loop-name.row)
     c.as_slice-name-items.ensures.keys (omega arith) c.loop-name.invariant

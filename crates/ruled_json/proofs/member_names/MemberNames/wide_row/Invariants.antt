@@ -6,4 +6,4 @@ use Rattle.ruled_json.specs.Rows.{cell_text}
 use Rattle.ruled_json.proofs.member_names.MemberNames.wide_row.Given as goal
 
 abbrev pub invariant-loop-name : goal.invariant-loop-name
-invariant-loop-name l = fields_of l.row ≡ map (λ name. cell_text (get (string_bytes name) (value_view l.value))) (take l.name-index l.name-items)
+invariant-loop-name l = fields_of l.row ≡ map (λ name. cell_text l.null (get (string_bytes name) (value_view l.value))) (take l.name-index l.name-items)
