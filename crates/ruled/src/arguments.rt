@@ -108,7 +108,7 @@ const FLAG: Choice = Choice {
 };
 
 /// All arguments, in the order of the help.
-const CHOICES: [Choice; 36] = [
+const CHOICES: [Choice; 37] = [
     Choice {
         name: "file",
         value: "FILE",
@@ -296,6 +296,7 @@ const CHOICES: [Choice; 36] = [
         value: "WHEN",
         takes: Takes::Color,
         help: "Print the header in bold; by default (auto) if the output is a terminal, unless NO_COLOR is set or TERM is dumb",
+        ..FLAG
     },
     Choice {
         name: "null",

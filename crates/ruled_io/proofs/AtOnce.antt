@@ -7,6 +7,7 @@ use Rattle.std.specs.Io.KnownBytes.{Appends}
 use Rattle.std.specs.Result.{IsErrAnd, result_and, result_err}
 use Rattle.std.proofs.KnownBytes.{Appends-nil, Appends-trans, Keeps-refl}
 use Rattle.std.proofs.lemmas.Bool.{false≢true, true≢false}
+use Rattle.std.proofs.lemmas.Bool.Decides.{nat_tests}
 use Rattle.pg_layout.specs.Text.{Text}
 use Rattle.ruled_table.specs.Appended.{HasAppended}
 use Rattle.ruled_table.specs.Blocks.{blocks_fault, blocks_text, record_block, record_fault, records_fault}
@@ -75,11 +76,11 @@ read-handed failed found (Err fault) is noted = λ read. noted (sym (ap is_read 
 pub write-handed : {X : Type 0} (failed : Option ReadFault) (found : RunFault) (result : Result X RunFault) → is_of_write found ≡ true → IsErrAnd result (λ fault. fault ≡ found) → ReportsRead failed result
 write-handed failed found result writes is = read-handed failed found result is (λ read. absurd (true≢false (sym read ∙ (of-write found writes).0)))
 
-pub draws-unread : {X : Type 0} (failed : Option ReadFault) (text : Text) (wrong : Option ViewFault) (old new : Option (List ℕ)) (found : RunFault) → Draws text wrong old new {X = X} (Err found) → is_read found ≡ true → failed ≡ read_part found
-draws-unread failed text wrong old new (Input fault) draws read = absurd (false≢true read)
-draws-unread failed text wrong old new (Read fault) draws read = absurd draws
-draws-unread failed text wrong old new Closed draws read = absurd (false≢true read)
-draws-unread failed text wrong old new Write draws read = absurd (false≢true read)
+pub draws-unread : (X : Type 0) (failed : Option ReadFault) (text : Text) (wrong : Option ViewFault) (old new : Option (List ℕ)) (found : RunFault) → Draws text wrong old new {X = X} (Err found) → is_read found ≡ true → failed ≡ read_part found
+draws-unread X failed text wrong old new (Input fault) draws read = absurd (false≢true read)
+draws-unread X failed text wrong old new (Read fault) draws read = absurd draws
+draws-unread X failed text wrong old new Closed draws read = absurd (false≢true read)
+draws-unread X failed text wrong old new Write draws read = absurd (false≢true read)
 
 -- what a result says of a read, its fault does
 pub read-noted : {X : Type 0} (failed : Option ReadFault) (result : Result X RunFault) → ReportsRead failed result → IfSome (result_err result) (λ fault. is_read fault ≡ true → failed ≡ read_part fault)
@@ -93,16 +94,16 @@ written-draws text bytes wrong old new (Ok x) same fine wrote begun failed = (fi
 written-draws text bytes wrong old new (Err fault) same fine wrote begun failed = let (read, early) = of-write fault (failed fault refl) in (read, early, subst (Begins old new) same begun)
 
 -- before anything is drawn
-found-draws : {X : Type 0} (text : Text) (wrong : Option ViewFault) (old : Option (List ℕ)) (found : ViewFault) → (tables.is_memory found ≡ false → wrong ≡ Some found) → Draws text wrong old old {X = X} (Err (of_view found))
-found-draws text wrong old (view.Column name) right = (λ soft. (rw (right refl) refl, Keeps-refl old), λ lost. absurd (false≢true lost))
-found-draws text wrong old view.Sort right = (λ soft. (rw (right refl) refl, Keeps-refl old), λ lost. absurd (false≢true lost))
-found-draws text wrong old view.Totals right = (λ soft. (rw (right refl) refl, Keeps-refl old), λ lost. absurd (false≢true lost))
-found-draws text wrong old view.Memory right = (λ soft. absurd (true≢false soft), λ lost. begins-none old old text (Keeps-refl old))
+found-draws : (X : Type 0) (text : Text) (wrong : Option ViewFault) (old : Option (List ℕ)) (found : ViewFault) → (tables.is_memory found ≡ false → wrong ≡ Some found) → Draws text wrong old old {X = X} (Err (of_view found))
+found-draws X text wrong old (view.Column name) right = (λ soft. (rw (right refl) refl, Keeps-refl old), λ lost. absurd (false≢true lost))
+found-draws X text wrong old view.Sort right = (λ soft. (rw (right refl) refl, Keeps-refl old), λ lost. absurd (false≢true lost))
+found-draws X text wrong old view.Totals right = (λ soft. (rw (right refl) refl, Keeps-refl old), λ lost. absurd (false≢true lost))
+found-draws X text wrong old view.Memory right = (λ soft. absurd (true≢false soft), λ lost. begins-none old old text (Keeps-refl old))
 
 pub view-draws : {X : Type 0} (text : Text) (wrong : Option ViewFault) (old : Option (List ℕ)) (found : ViewFault) (result : Result X RunFault) → (tables.is_memory found ≡ false → wrong ≡ Some found) → IsErrAnd result (λ fault. fault ≡ of_view found)
     → Draws text wrong old old result
 view-draws text wrong old found (Ok x) right is = absurd is
-view-draws {X} text wrong old found (Err fault) right is = subst (λ (f : RunFault). Draws text wrong old old {X = X} (Err f)) (sym is) (found-draws {X = X} text wrong old found right)
+view-draws {X} text wrong old found (Err fault) right is = subst (λ (f : RunFault). Draws text wrong old old {X = X} (Err f)) (sym is) (found-draws X text wrong old found right)
 
 -- ---- a table
 
@@ -225,16 +226,16 @@ whole-draws options plan rows wrong old new result laid none draws =
     subst (λ (w : Option ViewFault). Draws (whole_table options rows) w old new result) (sym none) (subst (λ (t : Text). Draws t None old new result) text so)
 
 -- where a text ends before its end, so does a longer one
-draws-longer : {X : Type 0} (text more : Text) (wrong : Option ViewFault) (old new : Option (List ℕ)) (fault : RunFault) → Draws text wrong old new {X = X} (Err fault) → Draws (text ++ more) wrong old new {X = X} (Err fault)
-draws-longer text more wrong old new (Input fault) (soft, lost) = (soft, λ memory. begins-longer old new text more (lost memory))
-draws-longer text more wrong old new (Read fault) drawn = drawn
-draws-longer text more wrong old new Closed begun = begins-longer old new text more begun
-draws-longer text more wrong old new Write begun = begins-longer old new text more begun
+draws-longer : (X : Type 0) (text more : Text) (wrong : Option ViewFault) (old new : Option (List ℕ)) (fault : RunFault) → Draws text wrong old new {X = X} (Err fault) → Draws (text ++ more) wrong old new {X = X} (Err fault)
+draws-longer X text more wrong old new (Input fault) (soft, lost) = (soft, λ memory. begins-longer old new text more (lost memory))
+draws-longer X text more wrong old new (Read fault) drawn = drawn
+draws-longer X text more wrong old new Closed begun = begins-longer old new text more begun
+draws-longer X text more wrong old new Write begun = begins-longer old new text more begun
 
 pub draws-handed : {X : Type 0} (text more : Text) (wrong : Option ViewFault) (old new : Option (List ℕ)) (found : RunFault) (result : Result X RunFault) → Draws text wrong old new {X = X} (Err found) → IsErrAnd result (λ fault. fault ≡ found)
     → Draws (text ++ more) wrong old new result
 draws-handed text more wrong old new found (Ok x) drawn is = absurd is
-draws-handed {X} text more wrong old new found (Err fault) drawn is = subst (λ (f : RunFault). Draws (text ++ more) wrong old new {X = X} (Err f)) (sym is) (draws-longer {X = X} text more wrong old new found drawn)
+draws-handed {X} text more wrong old new found (Err fault) drawn is = subst (λ (f : RunFault). Draws (text ++ more) wrong old new {X = X} (Err f)) (sym is) (draws-longer X text more wrong old new found drawn)
 
 -- and where it is drawn, what is written behind it makes the longer one
 pub draws-behind : {X : Type 0} (text more bytes : Text) (wrong : Option ViewFault) (old mid new : Option (List ℕ)) (result : Result X RunFault) → wrong ≡ None → Appends old mid text → bytes ≡ more
@@ -288,9 +289,17 @@ either-same false x = refl
 pub blocks-excess : (options : Options) (rows : List (List Text)) → shows_blocks options rows ≡ true → None ≡ all_excess options rows
 blocks-excess options rows turned = rw turned (either-same (length rows == 0) None)
 
+-- neither of two tests holds
+last-of : (a b : Bool) (x : Option ℕ) → a ≡ false → b ≡ false → x ≡ (if a then None else if b then None else x)
+last-of true b x none flat = absurd (false≢true (sym none))
+last-of false true x none flat = absurd (false≢true (sym flat))
+last-of false false x none flat = refl
+
 pub excess-measured : (options : Options) (rows : List (List Text)) (plan : Plan) (wide : Option ℕ) → 0 < length rows → shows_blocks options rows ≡ false → plan ≡ layout_of options rows → wide ≡ excess_of options.bounds.width plan → wide ≡ all_excess options rows
 excess-measured options [] plan wide some flat laid is = absurd (omega (arith, some))
-excess-measured options (row ∷ rows) plan wide some flat laid is = rw flat (is ∙ ap (excess_of options.bounds.width) laid)
+excess-measured options (row ∷ rows) plan wide some flat laid is =
+    let none : (length (row ∷ rows) == 0) ≡ false = grind (arith, nat_tests) in
+    is ∙ ap (excess_of options.bounds.width) laid ∙ last-of (length (row ∷ rows) == 0) (shows_blocks options (row ∷ rows)) _ none flat
 
 pub same-draws : {X : Type 0} (text same : Text) (wrong right : Option ViewFault) (old new : Option (List ℕ)) (result : Result X RunFault) → text ≡ same → wrong ≡ right → Draws text wrong old new result → Draws same right old new result
 same-draws text same wrong right old new result is told drawn = subst (λ (w : Option ViewFault). Draws same w old new result) told (subst (λ (t : Text). Draws t wrong old new result) is drawn)

@@ -258,11 +258,11 @@ lacks-caused request bytes old Write lacks = absurd lacks
 
 module _ (request : Request) (bytes : List ℕ) (rows : List (List Text)) (are : AreRows (rows_needed request.view) request.source bytes rows) where
   -- their table isn't written
-  pub draws-caused : {X : Type 0} (old new : Option (List ℕ)) (fault : RunFault) → Draws (table_text request.view rows) (table_fault request.view rows) old new {X = X} (Err fault) → CausedAtOnce request bytes fault old new
-  draws-caused old new (Input fault) (soft, memory) = (λ found. (inr (rows, are, (soft found).0), (soft found).1), λ lost. inr (rows, are, memory lost))
-  draws-caused old new (Read fault) draws = absurd draws
-  draws-caused old new Closed draws = (rows, are, draws)
-  draws-caused old new Write draws = (rows, are, draws)
+  pub draws-caused : (X : Type 0) (old new : Option (List ℕ)) (fault : RunFault) → Draws (table_text request.view rows) (table_fault request.view rows) old new {X = X} (Err fault) → CausedAtOnce request bytes fault old new
+  draws-caused X old new (Input fault) (soft, memory) = (λ found. (inr (rows, are, (soft found).0), (soft found).1), λ lost. inr (rows, are, memory lost))
+  draws-caused X old new (Read fault) draws = absurd draws
+  draws-caused X old new Closed draws = (rows, are, draws)
+  draws-caused X old new Write draws = (rows, are, draws)
 
   -- it is written, but not shown
   pub unshown-caused : (old mid new : Option (List ℕ)) (fault : RunFault) → is_of_write fault ≡ true → Appends old mid (table_text request.view rows) → Keeps mid new → CausedAtOnce request bytes fault old new
@@ -286,16 +286,16 @@ of-write-late Closed failed = refl
 of-write-late Write failed = refl
 
 -- a fault that is found first is told before anything is written
-pub draws-early : {X : Type 0} (text : Text) (wrong : Option ViewFault) (old new : Option (List ℕ)) (fault : RunFault) → Draws text wrong old new {X = X} (Err fault) → is_early fault ≡ true → Keeps old new
-draws-early text wrong old new (Input fault) (soft, memory) early = (soft (not-true (is_memory fault) early)).1
-draws-early text wrong old new (Read fault) draws early = absurd draws
-draws-early text wrong old new Closed draws early = absurd (false≢true early)
-draws-early text wrong old new Write draws early = absurd (false≢true early)
+pub draws-early : (X : Type 0) (text : Text) (wrong : Option ViewFault) (old new : Option (List ℕ)) (fault : RunFault) → Draws text wrong old new {X = X} (Err fault) → is_early fault ≡ true → Keeps old new
+draws-early X text wrong old new (Input fault) (soft, memory) early = (soft (not-true (is_memory fault) early)).1
+draws-early X text wrong old new (Read fault) draws early = absurd draws
+draws-early X text wrong old new Closed draws early = absurd (false≢true early)
+draws-early X text wrong old new Write draws early = absurd (false≢true early)
 
-pub early-handed : {X Y : Type 0} (text : Text) (wrong : Option ViewFault) (old new : Option (List ℕ)) (found : RunFault) (result : Result Y RunFault) → Draws text wrong old new {X = X} (Err found) → IsErrAnd result (λ fault. fault ≡ found)
+pub early-handed : (X : Type 0) {Y : Type 0} (text : Text) (wrong : Option ViewFault) (old new : Option (List ℕ)) (found : RunFault) (result : Result Y RunFault) → Draws text wrong old new {X = X} (Err found) → IsErrAnd result (λ fault. fault ≡ found)
     → IfErr result (λ fault. is_early fault ≡ true → Keeps old new)
-early-handed text wrong old new found (Ok x) draws is = absurd is
-early-handed {X} text wrong old new found (Err fault) draws is = λ early. draws-early {X = X} text wrong old new found draws (ap is_early (sym is) ∙ early)
+early-handed X text wrong old new found (Ok x) draws is = absurd is
+early-handed X text wrong old new found (Err fault) draws is = λ early. draws-early X text wrong old new found draws (ap is_early (sym is) ∙ early)
 
 -- the table is written, and then shown
 module _ {X : Type 0} (given : Option (List ℕ)) (request : Request) (rows : List (List Text)) (old mid new : Option (List ℕ)) (result : Result X RunFault) (are : IfSome given (λ bytes. AreRows (rows_needed request.view) request.source bytes rows))

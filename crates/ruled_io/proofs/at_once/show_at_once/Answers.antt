@@ -1,4 +1,4 @@
-use Rattle.std.proofs.Common.{◌∙◌, List, ℕ, map}
+use Rattle.std.proofs.Common.{◌∙◌, List, ℕ, map, Option}
 use Rattle.csv.specs.Records.{fields_of}
 use Rattle.ruled_table.specs.View.{table_fault, table_text}
 use Rattle.ruled_io.specs.Reading.{read_failure}
@@ -22,17 +22,17 @@ returns-in_err-wide-clause-cause g c =
     let request = c.args.request.now in
     let given = g.R.Read.remaining c.args.pieces.now.input in
     let old = g.W.Write.contents c.args.out.now.writer in
-    let new = g.W.Write.contents c.show_rows-wide.new.out.writer in
+    let new = g.W.Write.contents c.show_rows.new.out.writer in
     let rows : List (List (List ℕ)) = map fields_of c.in_ok-rows.rows.items in
     let found = c.in_err-wide.field-0.0 in
     handed-known given found c.from_residual-in_err-wide.result (λ bytes fault. CausedAtOnce request bytes fault old new) c.from_residual-in_err-wide.ensures.1
-    (if-so {P = λ bytes. AreRows (rows_needed request.view) request.source bytes rows} given c.in_ok-rows.ensures.rows (λ bytes are. draws-caused request bytes rows are old new found c.in_err-wide.ensures.draws))
+    (if-so {P = λ bytes. AreRows (rows_needed request.view) request.source bytes rows} given c.in_ok-rows.ensures.rows (λ bytes are. draws-caused request bytes rows are (Option ℕ) old new found c.in_err-wide.ensures.draws))
 
 pub returns-in_err-wide-clause-unwritten : goal.returns-in_err-wide-clause-unwritten
 returns-in_err-wide-clause-unwritten g c =
     let request = c.args.request.now in
     let rows : List (List (List ℕ)) = map fields_of c.in_ok-rows.rows.items in
-    early-handed (table_text request.view rows) (table_fault request.view rows) (g.W.Write.contents c.args.out.now.writer) (g.W.Write.contents c.show_rows-wide.new.out.writer) c.in_err-wide.field-0.0 c.from_residual-in_err-wide.result
+    early-handed (Option ℕ) (table_text request.view rows) (table_fault request.view rows) (g.W.Write.contents c.args.out.now.writer) (g.W.Write.contents c.show_rows.new.out.writer) c.in_err-wide.field-0.0 c.from_residual-in_err-wide.result
     c.in_err-wide.ensures.draws c.from_residual-in_err-wide.ensures.1
 
 pub returns-clause-shown : goal.returns-clause-shown
@@ -40,7 +40,7 @@ returns-clause-shown g c =
     let request = c.args.request.now in
     let given = g.R.Read.remaining c.args.pieces.now.input in
     let rows : List (List (List ℕ)) = map fields_of c.in_ok-rows.rows.items in
-    shown-drawn given request rows (g.W.Write.contents c.args.out.now.writer) (g.W.Write.contents c.show_rows-wide.new.out.writer) (g.W.Write.contents c.flush_remarked.new.out.writer) c.flush_remarked.result
+    shown-drawn given request rows (g.W.Write.contents c.args.out.now.writer) (g.W.Write.contents c.show_rows.new.out.writer) (g.W.Write.contents c.flush_remarked.new.out.writer) c.flush_remarked.result
     c.in_ok-rows.ensures.rows c.in_ok-wide.ensures.draws c.flush_remarked.ensures.kept
 
 pub returns-clause-cause : goal.returns-clause-cause
@@ -48,7 +48,7 @@ returns-clause-cause g c =
     let request = c.args.request.now in
     let given = g.R.Read.remaining c.args.pieces.now.input in
     let rows : List (List (List ℕ)) = map fields_of c.in_ok-rows.rows.items in
-    after-drawn given request rows (g.W.Write.contents c.args.out.now.writer) (g.W.Write.contents c.show_rows-wide.new.out.writer) (g.W.Write.contents c.flush_remarked.new.out.writer) c.flush_remarked.result
+    after-drawn given request rows (g.W.Write.contents c.args.out.now.writer) (g.W.Write.contents c.show_rows.new.out.writer) (g.W.Write.contents c.flush_remarked.new.out.writer) c.flush_remarked.result
     c.in_ok-rows.ensures.rows c.in_ok-wide.ensures.draws c.flush_remarked.ensures.kept c.flush_remarked.ensures.failed
 
 pub returns-in_err-rows-clause-told : goal.returns-in_err-rows-clause-told
@@ -61,7 +61,7 @@ pub returns-in_err-wide-clause-noted : goal.returns-in_err-wide-clause-noted
 returns-in_err-wide-clause-noted g c =
     let failed = read_failure c.read_rows.new.pieces in
     let found = c.in_err-wide.field-0.0 in
-    read-handed failed found c.from_residual-in_err-wide.result c.from_residual-in_err-wide.ensures.1 (draws-unread failed _ _ _ _ found c.in_err-wide.ensures.draws)
+    read-handed failed found c.from_residual-in_err-wide.result c.from_residual-in_err-wide.ensures.1 (draws-unread (Option ℕ) failed _ _ _ _ found c.in_err-wide.ensures.draws)
 
 pub returns-clause-noted : goal.returns-clause-noted
 returns-clause-noted g c = no-read (read_failure c.read_rows.new.pieces) c.flush_remarked.result (writes-only c.flush_remarked.result c.flush_remarked.ensures.failed)

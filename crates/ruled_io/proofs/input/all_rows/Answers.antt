@@ -1,5 +1,6 @@
 use Rattle.std.proofs.Common.{◌≡◌, ◌∙◌, false, true, map, string_bytes, sym}
 use Rattle.csv.specs.Records.{fields_of}
+use Rattle.ruled_json.specs.Rows.{rules_of}
 use Rattle.ruled_io.specs.Requests.{holds_database}
 use Rattle.ruled_io.proofs.Causes.{asked_held, asked_lacking, held_rows, lacking_rows}
 use Rattle.ruled_io.proofs.input.all_rows.Goals as goal
