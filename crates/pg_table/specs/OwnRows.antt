@@ -16,6 +16,8 @@ use Rattle.pg_table.specs.declared.sizes.Axis.{Axis}
 use Rattle.std.specs.List.{range_with_len}
 use Rattle.pg_layout.specs.Position.{at}
 
+-- ---- rows made of other rows
+
 -- the texts of so many columns, where row c is column c
 abbrev pub transposed : List (List Text) → ℕ → List (List Text)
 transposed texts columns = map (λ c. map (λ r. text_at texts (at r c)) (range_with_len 0 (length texts))) (range_with_len 0 columns)
@@ -28,7 +30,7 @@ padded_to columns filler row = row ++ replicate (columns - length row) filler
 abbrev pub padded : {T : Type 0} → T → List (List T) → List (List T)
 padded filler rows = map (padded_to (greatest (map (λ row. length row) rows)) filler) rows
 
--- ---- rows made of other rows
+-- ---- a table with rows of its own
 
 -- the texts of its cells, by that of a value
 abbrev pub texts_of : {T : Type 0} → (T → Text) → Parts T → List (List Text)

@@ -11,11 +11,13 @@ use Rattle.pg_table.specs.Printing.{Parts}
 use Rattle.pg_layout.specs.declared.borders.Borders.{Borders}
 use Rattle.pg_config.specs.Crossings.{span_crossing, with_crossings}
 
+-- ---- crossings that follow merged cells
+
 -- each crossing on the edge of a merged cell, in a table of so many rows and columns, by the glyphs of these borders
 abbrev pub with_span_crossings : Borders ℕ → ℕ → ℕ → Config → Config
 with_span_crossings b rows columns config = record config { overrides = with_crossings rows columns (span_crossing config b rows columns) config.overrides }
 
--- ---- crossings that follow merged cells
+-- ---- panels, cells over several columns or rows, and lines
 
 -- the configuration with this line above row r of so many rows, where that is inside the table: the lines of the frame stay
 abbrev pub with_inner_line : ℕ → HorizontalLine ℕ → ℕ → ℕ → Config → Config

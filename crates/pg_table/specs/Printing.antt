@@ -21,13 +21,13 @@ use Rattle.pg_table.specs.declared.sizes.Axis.{Axis}
 use Rattle.pg_table.specs.declared.sizes.Axis.TheVariants.{Columns, Rows}
 use Rattle.pg_layout.specs.declared.vec_records.RecordsFault.TheVariants as records
 
+-- ---- the words for a table that can't be made or printed
+
 abbrev pub table_fault_text : TableFault → Text
 table_fault_text (Ragged row) = records_fault_text (records.Ragged row)
 table_fault_text Totals = codes "the sizes are too large"
 table_fault_text Memory = codes "out of memory"
 table_fault_text Spans = codes "a span is 0, leaves the table, or shares a place with another"
-
--- ---- faults
 
 -- ---- faults
 

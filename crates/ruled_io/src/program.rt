@@ -26,7 +26,7 @@ use std::io::{Read, Write};
 pub struct Remarks {
     /// How many rows had fewer fields than there are columns, and were padded.
     pub padded: usize,
-    /// How many terminal columns a line takes, if these are more than the width that is set. Of blocks it isn't said.
+    /// How many terminal columns a line takes, if these are more than the width that is set. `None` for blocks.
     pub wide: Option<usize>,
 }
 

@@ -47,7 +47,7 @@ abbrev pub excess_of : Option ℕ → Plan → Option ℕ
 excess_of None plan = None
 excess_of (Some width) plan = option_and_then (λ line. if nat_lt width line then Some line else None) (if_fits (full_width (table_of plan [])))
 
--- that of the table of rows; of blocks it isn't said
+-- that of the table of rows; none of blocks
 abbrev pub all_excess : Options → List (List Text) → Option ℕ
 all_excess options rows = if length rows == 0 then None else if shows_blocks options rows then None else excess_of options.bounds.width (layout_of options rows)
 
