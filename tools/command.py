@@ -17,6 +17,18 @@ FILES = [PROGRAM, COMMAND, PAGE, *COMPLETIONS.values()]
 ROW = re.compile(r" +(?:-(\w), )?--([\w-]+)(?:(\[=)?[ ]?<([\w]+)>\]?)?  +(.+)")
 VALUES = re.compile(r" \[possible values: ([^\]]+)\]")
 
+# The installed command.
+LAUNCHER = '''\
+#!/bin/sh
+# Runs the proved program, and passes it the terminal's width if it writes to a terminal.
+if [ -z "${COLUMNS:-}" ] && [ -t 1 ] && { size="$(stty size <&3 2> /dev/null)"; } 3>&1; then
+    COLUMNS="${size#* }"
+    export COLUMNS
+fi
+self="$(readlink -f -- "$0")"
+exec "${self%/bin/*}/lib/ruled/ruled" "$@"
+'''
+
 
 @dataclasses.dataclass(frozen=True)
 class Option:
@@ -83,7 +95,7 @@ def lay_out(program, folder):
     """Puts the stripped program, its launcher, its page and its completions below a folder; returns the files."""
     write(folder / PROGRAM, program.read_bytes(), 0o755)
     subprocess.run(["strip", "--remove-section=.comment", folder / PROGRAM], check=True)
-    write(folder / COMMAND, (HERE / "ruled-launcher").read_bytes(), 0o755)
+    write(folder / COMMAND, LAUNCHER.encode(), 0o755)
     write(folder / PAGE, gzip.compress(written_by("help-pages", "man", program), 9, mtime=0))
     for shell, name in COMPLETIONS.items():
         write(folder / name, written_by("help-pages", shell, program))
