@@ -25,7 +25,7 @@ use Rattle.ruled_io.specs.Faults.{IsOfRead, Tells, but_line_in, fault_of_databas
 use Rattle.ruled_io.specs.Formats.{content_of, format_in}
 use Rattle.ruled_io.specs.Input.{format_fault, input_fault, rows_in}
 use Rattle.ruled_io.specs.Output.{failure_in, fault_written, write_part, Begins}
-use Rattle.ruled_io.specs.Requests.{format_told, hides_rows, holds_database, known_in, log_of, members_of, rows_needed, selection_of}
+use Rattle.ruled_io.specs.Requests.{format_told, hides_rows, holds_database, inner_place, known_in, log_of, members_of, rows_needed, selection_of}
 use Rattle.ruled_io.specs.Runs.{AreAsked, AreRows, AreRowsAs, CausedAtOnce, LacksInput, LacksRows, LacksRowsAs, RemarksAll, ShowsAll, remarks_on}
 use Rattle.ruled_io.specs.Steps.{Draws}
 use Rattle.ruled_io.specs.declared.fault.InputFault.{InputFault}
@@ -307,15 +307,16 @@ module _ {X : Type 0} (given : Option (List ℕ)) (request : Request) (rows : Li
   after-drawn failed = each-err result (λ fault is. if-so {P = λ bytes. AreRows (rows_needed request.view) request.source bytes rows} given are (λ bytes these. unshown-caused request bytes rows these old mid new fault (failed fault is) drawn.1 kept))
 
 -- this is remarked
-abbrev remarks-of : ℕ → Option ℕ → Remarks
-remarks-of padded wide = record { padded = padded; wide = wide }
+abbrev remarks-of : ℕ → Option ℕ → Option ℕ → Remarks
+remarks-of padded wide inner = record { padded = padded; wide = wide; inner = inner }
 
-pub remarked-by : (given : Option (List ℕ)) (request : Request) (rows : List (List Text)) (padded : ℕ) (wide : Option ℕ) (result : Result Remarks RunFault) → IfSome given (λ bytes. AreRows (rows_needed request.view) request.source bytes rows)
-    → padded ≡ padded_rows request.view rows → wide ≡ table_excess request.view rows → IfOk result (λ told. told ≡ remarks-of padded wide) → IfOk result (λ remarks. IfSome given (λ bytes. RemarksAll request bytes remarks))
-remarked-by given request rows padded wide (Ok told) are pads exceeds same =
-    let is : told ≡ remarks_on request rows = same ∙ ap (λ (n : ℕ). remarks-of n wide) pads ∙ ap (remarks-of (padded_rows request.view rows)) exceeds in
+pub remarked-by : (given : Option (List ℕ)) (request : Request) (rows : List (List Text)) (padded : ℕ) (wide inner : Option ℕ) (result : Result Remarks RunFault) → IfSome given (λ bytes. AreRows (rows_needed request.view) request.source bytes rows)
+    → padded ≡ padded_rows request.view rows → wide ≡ table_excess request.view rows → inner ≡ inner_place request.source rows → IfOk result (λ told. told ≡ remarks-of padded wide inner) → IfOk result (λ remarks. IfSome given (λ bytes. RemarksAll request bytes remarks))
+remarked-by given request rows padded wide inner (Ok told) are pads exceeds has same =
+    let is : told ≡ remarks_on request rows = same ∙ ap (λ (n : ℕ). remarks-of n wide inner) pads ∙ ap (λ (w : Option ℕ). remarks-of (padded_rows request.view rows) w inner) exceeds
+    ∙ ap (remarks-of (padded_rows request.view rows) (table_excess request.view rows)) has in
     if-so {P = λ bytes. AreRows (rows_needed request.view) request.source bytes rows} given are (λ bytes these. (rows, these, is))
-remarked-by given request rows padded wide (Err fault) are pads exceeds same = tt
+remarked-by given request rows padded wide inner (Err fault) are pads exceeds has same = tt
 
 -- what a result says of a write, its fault does
 pub written-err : {X : Type 0} (r : Result X RunFault) → failure_in r ≡ fault_written (result_err r)

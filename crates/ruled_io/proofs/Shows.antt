@@ -141,7 +141,7 @@ module _ (options : Options) (count : ℕ) (rows : List (List Text)) (wrong : Op
 
   -- these remarks
   abbrev pub with-wide : Option ℕ → Remarks
-  with-wide wide = record { padded = 0; wide = wide }
+  with-wide wide = record { padded = 0; wide = wide; inner = None }
 
   shown-ends : {X : Type 0} (old new : Option (List ℕ)) (answer : Result X RunFault) (remarks : Remarks) → first_wrong options count rows wrong ≡ None → EndsBelow options (first_plan options count rows wrong) rows wrong [] old new answer
       → remarks ≡ first_remarks options count rows wrong → Ends options count rows wrong old new (result_and answer (Ok remarks))

@@ -1,5 +1,7 @@
 -- What is asked of a run.
-use Rattle.std.specs.Prelude.{ℕ, ◌-◌, ◌==◌, ◌&&◌, ◌||◌, is_some, length, max, Bool, true, false, List, [], Option, Some, None, option_map, if◌then◌else◌}
+use Rattle.std.specs.Prelude.{ℕ, ◌-◌, ◌==◌, ◌&&◌, ◌||◌, ◌∷◌, codes, is_some, length, max, nat_eq, position, Bool, true, false, List, [], Option, Some, None, option_map, if◌then◌else◌}
+use Rattle.std.specs.List.{starts_with}
+use Rattle.pg_layout.specs.Text.{Text}
 use Rattle.ruled_csv.specs.declared.dialect.RowRules.{RowRules}
 use Rattle.ruled_database.specs.Files.{keeps_log}
 use Rattle.ruled_io.specs.Formats as formats
@@ -109,3 +111,27 @@ abbrev pub rows_needed : Options → Option ℕ
 rows_needed options =
     if options.is_padded || is_some options.sort then None
     else option_map (λ limit. if length options.names.items == 0 then max 1 limit else limit - 1) (limit_of options)
+
+-- ---- records within a record
+
+-- its rows may be those of one JSON value, so a member of it may have others
+abbrev pub may_be_value : Source → Bool
+may_be_value (Rows format.Json) = true
+may_be_value (Rows format) = false
+may_be_value (Members format.Json members) = true
+may_be_value (Members format members) = false
+may_be_value (Values rules) = false
+may_be_value (Seen log rules members) = true
+may_be_value (Database selection log) = false
+
+-- an array of objects, as JSON without spaces
+abbrev pub has_records : Text → Bool
+has_records text = starts_with nat_eq text (codes "[{")
+
+-- the first place at which a record that is alone below row 0 has such an array
+abbrev pub records_place : List (List Text) → Option ℕ
+records_place (names ∷ fields ∷ []) = position has_records fields
+records_place rows = None
+
+abbrev pub inner_place : Source → List (List Text) → Option ℕ
+inner_place source rows = if may_be_value source then records_place rows else None

@@ -7,7 +7,7 @@ use Rattle.ruled_table.specs.View.{table_excess, table_fault, table_text}
 use Rattle.ruled_io.specs.Databases.{AreSelected, LacksAnswer, LacksQueried, LacksStored}
 use Rattle.ruled_io.specs.Faults.{but_line_in, fault_of_view, is_memory}
 use Rattle.ruled_io.specs.Input.{input_fault, rows_in}
-use Rattle.ruled_io.specs.Requests.{format_told, hides_rows, holds_database, log_of, members_of, rows_needed, selection_of}
+use Rattle.ruled_io.specs.Requests.{format_told, hides_rows, holds_database, inner_place, log_of, members_of, rows_needed, selection_of}
 use Rattle.ruled_io.specs.Stream.{StopsStream, streamed_fault, streamed_remarks, streamed_text, streamed_wrong}
 use Rattle.ruled_io.specs.Output.{Begins}
 use Rattle.ruled_io.specs.declared.fault.InputFault.{InputFault}
@@ -71,9 +71,9 @@ CausedAll request bytes fault =
     LacksRows (rows_needed request.view) request.source bytes fault
     ⊎ ((rows : List (List Text)) × AreRows (rows_needed request.view) request.source bytes rows × (option_map fault_of_view (table_fault request.view rows) ≡ Some fault))
 
--- what is remarked on rows: how many are padded, and how wide the lines of their table are, if that is more than the width that is set
+-- what is remarked on rows: how many are padded, how wide the lines of their table are, if that is more than the width that is set, and where a record has others
 abbrev pub remarks_on : Request → List (List Text) → Remarks
-remarks_on request rows = record { padded = padded_rows request.view rows; wide = table_excess request.view rows }
+remarks_on request rows = record { padded = padded_rows request.view rows; wide = table_excess request.view rows; inner = inner_place request.source rows }
 
 abbrev pub RemarksAll : Request → List ℕ → Remarks → Type 0
 RemarksAll request bytes remarks = (rows : List (List Text)) × AreRows (rows_needed request.view) request.source bytes rows × (remarks ≡ remarks_on request rows)

@@ -70,7 +70,7 @@ module _ (options : Options) (count : ℕ) (rows : List (List Text)) (wrong : Op
 
   -- what is remarked: no row is padded, and how wide the lines are, if that is more than the width that is set
   abbrev pub first_remarks : Remarks
-  first_remarks = record { padded = 0; wide = if length rows == 0 then None else excess_of options.bounds.width first_plan }
+  first_remarks = record { padded = 0; wide = if length rows == 0 then None else excess_of options.bounds.width first_plan; inner = None }
 
   module _ (old new : Option (List ℕ)) where
     -- the lines above a row that no room is left for

@@ -271,6 +271,12 @@ pub(crate) fn show_at_once<R: Read + Drop, W: Write + Drop>(
 {
     let rows = read_rows(alloc, request, pieces)?;
     let padded = padded_rows(&request.view, &rows);
+    let inner = request.source.inner_place(&rows);
     let wide = show_rows(alloc, &request.view, rows, out)?;
-    flush_remarked(out, Remarks { padded, wide })
+    let remarks = Remarks {
+        padded,
+        wide,
+        inner,
+    };
+    flush_remarked(out, remarks)
 }

@@ -28,6 +28,8 @@ pub struct Remarks {
     pub padded: usize,
     /// How many terminal columns a line takes, if these are more than the width that is set. `None` for blocks.
     pub wide: Option<usize>,
+    /// The first place at which the only record of one JSON value has an array of objects.
+    pub inner: Option<usize>,
 }
 
 impl Remarks {
@@ -35,6 +37,7 @@ impl Remarks {
     pub(crate) const NONE: Remarks = Remarks {
         padded: 0,
         wide: None,
+        inner: None,
     };
 }
 
@@ -108,19 +111,35 @@ fn tell_wide<W: Write>(wide: Option<usize>, options: &Options, err: &mut W) -> i
     err.flush()
 }
 
+// Writes that a column is an array of objects, if there is one at this place. An error is the writer's.
+fn tell_inner<W: Write>(inner: Option<usize>, err: &mut W) -> io::Result<()>
+    ensures { inner ≡ None → Keeps (W.contents err.old) (W.contents err.new) }
+{
+    let Some(place) = inner else {
+        return Ok(());
+    };
+    let column = place.saturating_add(1);
+    writeln!(
+        err,
+        "ruled: column {column} is an array of objects; see --at"
+    )?;
+    err.flush()
+}
+
 // Writes what is remarked on a table, if anything is. An error is the writer's.
 fn tell<W: Write>(remarks: Remarks, options: &Options, err: &mut W) -> io::Result<()>
-    ensures { remarks.padded ≡ 0 → remarks.wide ≡ None → Keeps (W.contents err.old) (W.contents err.new) }
+    ensures { remarks.padded ≡ 0 → remarks.wide ≡ None → remarks.inner ≡ None → Keeps (W.contents err.old) (W.contents err.new) }
 {
     tell_padded(remarks.padded, err)?;
-    tell_wide(remarks.wide, options, err)
+    tell_wide(remarks.wide, options, err)?;
+    tell_inner(remarks.inner, err)
 }
 
 // The ending of a run with this result. Its fault is reported, unless nobody reads the output, and so are remarks.
 fn ending_of<W: Write>(answer: Result<Remarks, RunFault>, request: &Request, err: &mut W) -> Ending
     ensures fault { result.fault ≡ result_err answer }
     ensures remarks { IfOk answer (λ remarks. result.remarks ≡ remarks) }
-    ensures silent { result.fault ≡ None → result.remarks.padded ≡ 0 → result.remarks.wide ≡ None → Keeps (W.contents err.old) (W.contents err.new) }
+    ensures silent { result.fault ≡ None → result.remarks.padded ≡ 0 → result.remarks.wide ≡ None → result.remarks.inner ≡ None → Keeps (W.contents err.old) (W.contents err.new) }
     ensures closed { result.fault ≡ Some RunFault.Closed → Keeps (W.contents err.old) (W.contents err.new) }
 {
     match answer {
@@ -162,8 +181,8 @@ fn ending_of<W: Write>(answer: Result<Remarks, RunFault>, request: &Request, err
 /// whose lines can't be counted.
 ///
 /// Each fault is one line on `err`, except that nothing is reported where nobody reads what is written. If rows were
-/// padded, one line says how many, and if a table is wider than the width that is set, one says how wide it is. A
-/// failed write to `err` changes no result. `Closed` and `Write` are returned if a
+/// padded, one line says how many, if a table is wider than the width that is set, one says how wide it is, and if the
+/// only record of a JSON value has an array of objects, one names its column. A failed write to `err` changes no result. `Closed` and `Write` are returned if a
 /// write to `out` has failed so, and only then; `Read` only if a read of `input` has failed.
 pub fn run<R: Read + Drop, W1: Write + Drop, W2: Write>(
     alloc: Global,
@@ -179,7 +198,7 @@ pub fn run<R: Read + Drop, W1: Write + Drop, W2: Write>(
     ensures failed { failure_of out.old ≡ None → failure_of out.new ≡ fault_written result.fault }
     ensures read { IfSome result.fault (λ fault. is_read fault ≡ true → read_failure input.new ≡ read_part fault) }
     ensures remarks { result.fault ≡ None → IfSome (left_in R.remaining input.old) (λ bytes. AreRemarks request.now bytes result.remarks) }
-    ensures silent { result.fault ≡ None → result.remarks.padded ≡ 0 → result.remarks.wide ≡ None → Keeps (W2.contents err.old) (W2.contents err.new) }
+    ensures silent { result.fault ≡ None → result.remarks.padded ≡ 0 → result.remarks.wide ≡ None → result.remarks.inner ≡ None → Keeps (W2.contents err.old) (W2.contents err.new) }
     ensures closed { result.fault ≡ Some RunFault.Closed → Keeps (W2.contents err.old) (W2.contents err.new) }
 {
     ending_of(show(alloc, request, input, out), request, err)

@@ -1,10 +1,12 @@
 //! Requests.
 
 ghost use Rattle.std.specs.Prelude.{◌≡◌, map, option_map, string_bytes};
+ghost use Rattle.csv.specs.Records.{fields_of};
 ghost use Rattle.ruled_json.specs.Rows.{plain_rules, rules_of};
 ghost use Rattle.ruled_io.specs.Requests as spec;
 
 use crate::formats::{Format, Known, is_database};
+use csv::StringRecord;
 use ruled_csv::RowRules;
 use ruled_database::keeps_log;
 use ruled_json::MemberRules;
@@ -199,6 +201,29 @@ impl Source {
         }
     }
 
+    // Whether its rows may be those of one JSON value.
+    fn may_be_value(&self) -> bool
+        ensures { result ≡ spec.may_be_value self.now }
+    {
+        match self {
+            Source::Rows(format) | Source::Members { format, .. } => {
+                matches!(format, Format::Json)
+            }
+            Source::Seen { .. } => true,
+            Source::Values { .. } | Source::Database { .. } => false,
+        }
+    }
+
+    // The first place at which a record that is alone below row 0 has an array of objects, which a path may lead to.
+    pub(crate) fn inner_place(&self, rows: &[StringRecord]) -> Option<usize>
+        ensures { result ≡ spec.inner_place self.now (map fields_of rows.now) }
+    {
+        if self.may_be_value() {
+            return records_place(rows);
+        }
+        None
+    }
+
     /// What is known of its logs.
     pub fn log(&self) -> Log
         ensures { result ≡ spec.log_of self.now }
@@ -232,6 +257,16 @@ impl Source {
             Source::Rows(_) | Source::Members { .. } | Source::Database { .. } => {}
         }
     }
+}
+
+// The first place at which a record that is alone below row 0 has an array of objects.
+fn records_place(rows: &[StringRecord]) -> Option<usize>
+    ensures { result ≡ spec.records_place (map fields_of rows.now) }
+{
+    let [_, fields] = rows else {
+        return None;
+    };
+    fields.iter().position(|text| text.starts_with("[{"))
 }
 
 /// When rows are shown.

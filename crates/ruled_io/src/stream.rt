@@ -120,16 +120,18 @@ fn show_table<R: Read + Drop, W: Write + Drop>(
         return Err(RunFault::Input(fault));
     }
     if rows.is_empty() {
-        return Ok(Remarks {
-            padded: 0,
-            wide: None,
-        });
+        return Ok(Remarks::NONE);
     }
     let layout = Layout::of_rows(alloc, options, count, &mut rows)?;
     let table = TableRows::new(alloc, options, &layout)?;
     let wide = layout.excess(options.bounds.width);
     let answer = write_table(alloc, table, reading, rows, pieces, out);
-    answer.and(Ok(Remarks { padded: 0, wide }))
+    let remarks = Remarks {
+        padded: 0,
+        wide,
+        inner: None,
+    };
+    answer.and(Ok(remarks))
 }
 
 // How many records are first, at least one.

@@ -94,10 +94,10 @@ returns-clause-ends g c = λ format records all some enough stands.
 
 pub returns-clause-told : goal.returns-clause-told
 returns-clause-told g c =
-    let remarks : Remarks = record { padded = 0; wide = c.excess-wide.result } in
+    let remarks : Remarks = record { padded = 0; wide = c.excess-wide.result; inner = None } in
     told-with _ _ c.write_table-answer.result remarks c.and.result c.and.ensures c.write_table-answer.ensures.told
 
 pub returns-clause-noted : goal.returns-clause-noted
 returns-clause-noted g c =
-    let remarks : Remarks = record { padded = 0; wide = c.excess-wide.result } in
+    let remarks : Remarks = record { padded = 0; wide = c.excess-wide.result; inner = None } in
     noted-with _ c.write_table-answer.result remarks c.and.result c.and.ensures c.write_table-answer.ensures.noted
