@@ -111,7 +111,7 @@ module _ (options : Options) (count : ℕ) (rows : List (List Text)) (wrong : Op
       (begins-none old old (shown_text options count rows wrong) (Keeps-refl old), λ soft. inl (told ∙ ap (λ (f : RunFault). Some (but_line f)) (sym is)))
 
   -- there are none
-  pub none-ends : (old : Option (List ℕ)) → (length rows ≡ 0) × (wrong ≡ None) → Ends options count rows wrong old old (Ok (record { padded = 0; wide = None }))
+  pub none-ends : (old : Option (List ℕ)) → (length rows ≡ 0) × (wrong ≡ None) → Ends options count rows wrong old old (Ok (record { padded = 0; wide = None; inner = None }))
   none-ends old (none, fine) =
       let empty : rows ≡ [] = no-items rows none in
       let text : shown_text options count rows wrong ≡ [] = rw (empty, fine) (whole-none options (layout_of options (take count []))) in

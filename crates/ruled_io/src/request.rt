@@ -10,7 +10,7 @@ use csv::StringRecord;
 use ruled_csv::RowRules;
 use ruled_database::keeps_log;
 use ruled_json::MemberRules;
-use ruled_table::Options;
+use ruled_table::{Options, field_at};
 
 /// What is known of the logs beside the file of a database.
 #[derive(Clone, Copy)]
@@ -259,6 +259,13 @@ impl Source {
     }
 }
 
+// Whether a text is an array of objects, as JSON without spaces.
+fn has_records(text: &str) -> bool
+    ensures { result ≡ spec.has_records text.now }
+{
+    text.as_bytes().starts_with(b"[{")
+}
+
 // The first place at which a record that is alone below row 0 has an array of objects.
 fn records_place(rows: &[StringRecord]) -> Option<usize>
     ensures { result ≡ spec.records_place (map fields_of rows.now) }
@@ -266,7 +273,12 @@ fn records_place(rows: &[StringRecord]) -> Option<usize>
     let [_, fields] = rows else {
         return None;
     };
-    fields.iter().position(|text| text.starts_with("[{"))
+    for place in 0..fields.len() {
+        if has_records(field_at(fields, place)) {
+            return Some(place);
+        }
+    }
+    None
 }
 
 /// When rows are shown.

@@ -71,4 +71,4 @@ returns-clause-remarks g c =
     let request = c.args.request.now in
     let rows : List (List (List ℕ)) = map fields_of c.in_ok-rows.rows.items in
     remarked-by (g.R.Read.remaining c.args.pieces.now.input) request rows c.padded_rows-padded.result c.in_ok-wide.wide c.inner_place-inner.result c.flush_remarked.result c.in_ok-rows.ensures.rows (rw c.deref.ensures.value at c.padded_rows-padded.ensures) c.in_ok-wide.ensures.wide
-    (rw c.deref.ensures.value at c.inner_place-inner.ensures) c.flush_remarked.ensures.remarks
+    (rw c.deref-2.ensures.value at c.inner_place-inner.ensures) c.flush_remarked.ensures.remarks
