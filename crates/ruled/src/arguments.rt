@@ -108,7 +108,7 @@ const FLAG: Choice = Choice {
 };
 
 /// All arguments, in the order of the help.
-const CHOICES: [Choice; 37] = [
+const CHOICES: [Choice; 38] = [
     Choice {
         name: "file",
         value: "FILE",
@@ -158,6 +158,11 @@ const CHOICES: [Choice; 37] = [
         value: "PATH",
         takes: Takes::Text,
         help: "Print the rows of this member of a JSON value; a dot leads to a member of a member",
+        ..FLAG
+    },
+    Choice {
+        name: "flatten",
+        help: "Print each member of an object within an object of JSON in a column of its own, named a.b",
         ..FLAG
     },
     Choice {

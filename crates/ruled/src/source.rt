@@ -179,6 +179,14 @@ fn one_value(source: Source) -> Result<Source, &'static str> {
     }
 }
 
+// An input of JSON.
+fn json(source: Source) -> Result<Source, &'static str> {
+    match source {
+        Source::Seen { .. } | Source::Rows(Format::Json | Format::JsonLines) => Ok(source),
+        _ => Err("--flatten needs JSON"),
+    }
+}
+
 /// What the input is, but for the words of a query, a table or a path, or why it can't be.
 pub(crate) fn source_asked(alloc: Global, found: &ArgMatches) -> Result<Source, &'static str> {
     let asked = kind_asked(found)?;
@@ -191,6 +199,9 @@ pub(crate) fn source_asked(alloc: Global, found: &ArgMatches) -> Result<Source, 
     }
     if found.get_str("at").is_some() {
         source = one_value(source)?;
+    }
+    if found.get_flag("flatten") {
+        source = json(source)?;
     }
     source.set_rules(rules_asked(found)?);
     Ok(source)
@@ -247,6 +258,7 @@ fn query_of(
         members: MemberRules {
             path,
             null: String::new(alloc),
+            is_flat: found.get_flag("flatten"),
         },
         table: String::from_str(alloc, table_named(name_in(found)))?,
         names: mem::replace(&mut view.names, Vec::new(alloc)),
@@ -286,6 +298,14 @@ pub(crate) fn selected(
     }
     match copy_of(alloc, found.get_str("table"))? {
         Some(name) => Ok(database(Selection::Table { name, null })),
-        None => Ok(with_members(source, MemberRules { path, null })),
+        None => {
+            let is_flat = found.get_flag("flatten");
+            let members = MemberRules {
+                path,
+                null,
+                is_flat,
+            };
+            Ok(with_members(source, members))
+        }
     }
 }

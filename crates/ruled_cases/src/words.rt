@@ -216,10 +216,24 @@ fn push_name(alloc: Global, source: &mut Source, name: String) -> Result<(), All
                 members: MemberRules {
                     path: vec![in alloc; name]?,
                     null: String::new(alloc),
+                    is_flat: false,
                 },
             };
             Ok(())
         }
+    }
+}
+
+// Makes the records of JSON flat.
+fn set_flat(alloc: Global, source: &mut Source) {
+    if let Source::Rows(format) = source {
+        *source = Source::Members {
+            format: *format,
+            members: MemberRules::new(alloc),
+        };
+    }
+    if let Source::Members { members, .. } | Source::Seen { members, .. } = source {
+        members.is_flat = true;
     }
 }
 
@@ -266,6 +280,10 @@ pub(crate) fn set_option(
     }
     if name == "at" {
         push_name(alloc, &mut request.source, meant(alloc, value)?)?;
+        return Ok(true);
+    }
+    if name == "flatten" {
+        set_flat(alloc, &mut request.source);
         return Ok(true);
     }
     if name == "null" {

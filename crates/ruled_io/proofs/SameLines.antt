@@ -12,7 +12,7 @@ use Rattle.std.proofs.lemmas.List.Sums.{fold-append}
 use Rattle.csv.specs.Reading.{strip_bom}
 use Rattle.json.specs.Json.{Json}
 use Rattle.ruled_json.specs.Faults.{first_line_fault, line_after, line_fault, line_rows_fault}
-use Rattle.ruled_json.specs.Rows.{columns_of, has_all, line_rows_of, lines_of, names_in, record_on, records_on, row_of, table_in, table_of, with_name}
+use Rattle.ruled_json.specs.Rows.{Rules, columns_of, has_all, line_rows_of, lines_of, names_in, record_on, records_on, row_of, table_in, table_of, with_name}
 use Rattle.ruled_json.specs.Streamed.{LineRules, fault_behind, first_columns, first_fault_behind, late_fault, left_of, lines_above_fault, number_behind, sound_line_rows, streamed_line_fault, streamed_table}
 use Rattle.ruled_json.specs.declared.fault.JsonFault.{JsonFault}
 use Rattle.ruled_json.specs.declared.fault.JsonFault.TheVariants.{NoColumn}
@@ -22,8 +22,8 @@ use Rattle.ruled_json.proofs.AtOnce.{fault-as-at-once}
 -- ---- lines
 
 -- the records on one line more
-more-records : (above : List (List ℕ)) (line : List ℕ) → records_on (above ++ line ∷ []) ≡ records_on above ++ cons_option (record_on line) []
-more-records above line = filter_map-append record_on above (line ∷ [])
+more-records : (rules : Rules) (above : List (List ℕ)) (line : List ℕ) → records_on rules (above ++ line ∷ []) ≡ records_on rules above ++ cons_option (record_on rules line) []
+more-records rules above line = filter_map-append (record_on rules) above (line ∷ [])
 
 pub both-none : {X : Type 0} (first second : Option X) → option_or first second ≡ None → (first ≡ None) × (second ≡ None)
 both-none None second e = (refl, e)
@@ -41,7 +41,7 @@ lines-fine : (k : LineRules) (above lines : List (List ℕ)) → first_fault_beh
 lines-fine k above [] none = refl
 lines-fine k above (line ∷ lines) none =
     let (here, later) = both-none (fault_behind k above line) (first_fault_behind k (above ++ line ∷ []) lines) none in
-    let (fine, named) = both-none (line_fault (number_behind above) line) (option_and_then (late_fault k (records_on above) (number_behind above)) (record_on line)) here in
+    let (fine, named) = both-none (line_fault (number_behind above) line) (option_and_then (late_fault k (records_on k.members above) (number_behind above)) (record_on k.members line)) here in
     let next : first_line_fault (line_after (number_behind above) line) lines ≡ None =
     ap (λ (n : ℕ). first_line_fault n lines) (sym (fold-append line_after 1 above (line ∷ []))) ∙ lines-fine k (above ++ line ∷ []) lines later in
     rw (fine, next) refl
@@ -85,20 +85,20 @@ one-more k n above v none all = elim (cases_Bool (left_of k above == 0)) [
   | inr some ↦ ap columns_of (take_all k.records (above ++ v ∷ []) (omega (arith, above-none (left_of k above) some, length-append above (v ∷ []))))
 ]
 
-line-more : (k : LineRules) (above : List (List ℕ)) (line : List ℕ) (found : Option Json) → found ≡ record_on line → fault_behind k above line ≡ None → SayAll k (records_on above)
-    → SayAll k (records_on above ++ cons_option found [])
-line-more k above line None is fine all = subst (SayAll k) (sym (append-nil (records_on above))) all
+line-more : (k : LineRules) (above : List (List ℕ)) (line : List ℕ) (found : Option Json) → found ≡ record_on k.members line → fault_behind k above line ≡ None → SayAll k (records_on k.members above)
+    → SayAll k (records_on k.members above ++ cons_option found [])
+line-more k above line None is fine all = subst (SayAll k) (sym (append-nil (records_on k.members above))) all
 line-more k above line (Some v) is fine all =
     let n : ℕ = number_behind above in
-    let (own, named) = both-none (line_fault n line) (option_and_then (late_fault k (records_on above) n) (record_on line)) fine in
-    one-more k n (records_on above) v (ap (option_and_then (late_fault k (records_on above) n)) is ∙ named) all
+    let (own, named) = both-none (line_fault n line) (option_and_then (late_fault k (records_on k.members above) n) (record_on k.members line)) fine in
+    one-more k n (records_on k.members above) v (ap (option_and_then (late_fault k (records_on k.members above) n)) is ∙ named) all
 
-say-all : (k : LineRules) (above lines : List (List ℕ)) → first_fault_behind k above lines ≡ None → SayAll k (records_on above) → SayAll k (records_on (above ++ lines))
-say-all k above [] none all = subst (λ (ls : List (List ℕ)). SayAll k (records_on ls)) (sym (append-nil above)) all
+say-all : (k : LineRules) (above lines : List (List ℕ)) → first_fault_behind k above lines ≡ None → SayAll k (records_on k.members above) → SayAll k (records_on k.members (above ++ lines))
+say-all k above [] none all = subst (λ (ls : List (List ℕ)). SayAll k (records_on k.members ls)) (sym (append-nil above)) all
 say-all k above (line ∷ lines) none all =
     let (here, later) = both-none (fault_behind k above line) (first_fault_behind k (above ++ line ∷ []) lines) none in
-    let next : SayAll k (records_on (above ++ line ∷ [])) = subst (SayAll k) (sym (more-records above line)) (line-more k above line (record_on line) refl here all) in
-    subst (λ (ls : List (List ℕ)). SayAll k (records_on ls)) (append_assoc above (line ∷ []) lines) (say-all k (above ++ line ∷ []) lines later next)
+    let next : SayAll k (records_on k.members (above ++ line ∷ [])) = subst (SayAll k) (sym (more-records k.members above line)) (line-more k above line (record_on k.members line) refl here all) in
+    subst (λ (ls : List (List ℕ)). SayAll k (records_on k.members ls)) (append_assoc above (line ∷ []) lines) (say-all k (above ++ line ∷ []) lines later next)
 
 -- ---- where nothing is wrong with a stream
 
@@ -110,8 +110,8 @@ pub rows-at-once : (k : LineRules) (bytes : List ℕ) → streamed_line_fault k 
 unfolding streamed_line_fault sound_line_rows line_rows_of
 rows-at-once k bytes none =
     let lines : List (List ℕ) = lines_of (strip_bom bytes) in
-    ap (λ (ls : List (List ℕ)). streamed_table k (records_on ls)) (all-lines k [] lines none)
-    ∙ ap (λ (columns : List (List ℕ)). table_in k.members.null_text columns (records_on lines)) (say-all k [] lines none (ap columns_of (take_all k.records [] (omega arith))))
+    ap (λ (ls : List (List ℕ)). streamed_table k (records_on k.members ls)) (all-lines k [] lines none)
+    ∙ ap (λ (columns : List (List ℕ)). table_in k.members.null_text columns (records_on k.members lines)) (say-all k [] lines none (ap columns_of (take_all k.records [] (omega arith))))
 
 -- ---- records without names
 
@@ -128,14 +128,14 @@ nameless k n above v none =
     let named : has_all (first_columns k above) v ≡ true = ap (list_all (λ name. list_any (bytes_eq name) (first_columns k above))) none in
     ap (λ (b : Bool). if (left_of k above == 0) && not b then Some (NoColumn (Line n)) else None) named ∙ neither (left_of k above == 0) (NoColumn (Line n))
 
-nameless-line : (k : LineRules) (above : List (List ℕ)) (line : List ℕ) (found : Option Json) → found ≡ record_on line → flat_map names_in (cons_option found []) ≡ []
+nameless-line : (k : LineRules) (above : List (List ℕ)) (line : List ℕ) (found : Option Json) → found ≡ record_on k.members line → flat_map names_in (cons_option found []) ≡ []
     → fault_behind k above line ≡ line_fault (number_behind above) line
 nameless-line k above line None is none =
-    ap (λ (v : Option Json). option_or (line_fault (number_behind above) line) (option_and_then (late_fault k (records_on above) (number_behind above)) v)) (sym is)
+    ap (λ (v : Option Json). option_or (line_fault (number_behind above) line) (option_and_then (late_fault k (records_on k.members above) (number_behind above)) v)) (sym is)
     ∙ or-none (line_fault (number_behind above) line)
 nameless-line k above line (Some v) is none =
-    ap (λ (w : Option Json). option_or (line_fault (number_behind above) line) (option_and_then (late_fault k (records_on above) (number_behind above)) w)) (sym is)
-    ∙ ap (option_or (line_fault (number_behind above) line)) (nameless k (number_behind above) (records_on above) v (sym (append-nil (names_in v)) ∙ none))
+    ap (λ (w : Option Json). option_or (line_fault (number_behind above) line) (option_and_then (late_fault k (records_on k.members above) (number_behind above)) w)) (sym is)
+    ∙ ap (option_or (line_fault (number_behind above) line)) (nameless k (number_behind above) (records_on k.members above) v (sym (append-nil (names_in v)) ∙ none))
     ∙ or-none (line_fault (number_behind above) line)
 
 both-nil : {X : Type 0} (xs ys : List X) → xs ++ ys ≡ [] → (xs ≡ []) × (ys ≡ [])
@@ -147,11 +147,11 @@ split-names : (found : Option Json) (records : List Json) → flat_map names_in 
 split-names None records none = (refl, none)
 split-names (Some v) records none = let (here, later) = both-nil (names_in v) (flat_map names_in records) none in (append-nil (names_in v) ∙ here, later)
 
-nameless-lines : (k : LineRules) (above lines : List (List ℕ)) → flat_map names_in (records_on lines) ≡ [] → first_fault_behind k above lines ≡ first_line_fault (number_behind above) lines
+nameless-lines : (k : LineRules) (above lines : List (List ℕ)) → flat_map names_in (records_on k.members lines) ≡ [] → first_fault_behind k above lines ≡ first_line_fault (number_behind above) lines
 nameless-lines k above [] none = refl
 nameless-lines k above (line ∷ lines) none =
-    let (here, later) = split-names (record_on line) (records_on lines) none in
-    ap (λ (f : Option JsonFault). option_or f (first_fault_behind k (above ++ line ∷ []) lines)) (nameless-line k above line (record_on line) refl here)
+    let (here, later) = split-names (record_on k.members line) (records_on k.members lines) none in
+    ap (λ (f : Option JsonFault). option_or f (first_fault_behind k (above ++ line ∷ []) lines)) (nameless-line k above line (record_on k.members line) refl here)
     ∙ ap (option_or (line_fault (number_behind above) line))
     (nameless-lines k (above ++ line ∷ []) lines later ∙ ap (λ (n : ℕ). first_line_fault n lines) (fold-append line_after 1 above (line ∷ [])))
 
@@ -176,7 +176,7 @@ no-names (name ∷ names) none = absurd (omega (arith, only-more (name ∷ []) n
 pub same-fault : (k : LineRules) (bytes : List ℕ) → length (line_rows_of k.members (strip_bom bytes)) ≤ k.records + 1 → streamed_line_fault k bytes ≡ line_rows_fault (strip_bom bytes)
 unfolding line_rows_fault line_rows_of streamed_line_fault
 same-fault k bytes few =
-    let records : List Json = records_on (lines_of (strip_bom bytes)) in
+    let records : List Json = records_on k.members (lines_of (strip_bom bytes)) in
     elim (cases_Bool (length (columns_of records) == 0)) [
       | inl no-column ↦ nameless-lines k [] (lines_of (strip_bom bytes)) (no-names (flat_map names_in records) (eqb-true (length (columns_of records)) 0 no-column))
       | inr some ↦

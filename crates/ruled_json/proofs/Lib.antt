@@ -1,4 +1,5 @@
 pub mod AtOnce
 mod Views
+mod Flat
 mod Tables
 mod StreamedLines

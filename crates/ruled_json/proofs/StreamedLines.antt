@@ -10,7 +10,7 @@ use Rattle.csv.specs.Records.{Row, fields_of}
 use Rattle.json.specs.Json.{Json}
 use Rattle.ruled_json.specs.Faults.{first_line_fault, line_after, line_fault}
 use Rattle.ruled_json.specs.Reading.{AppendsRest, HasLines, HasRecords, columns_in, padded, HasRead, NoFeed, without_front}
-use Rattle.ruled_json.specs.Rows.{columns_of, record_on, records_on, row_of, table_in, table_of, lines_of}
+use Rattle.ruled_json.specs.Rows.{columns_of, record_on, records_on, row_of, table_in, table_of, lines_of, Rules}
 use Rattle.ruled_json.specs.Streamed.{LineRules, ended_table, fault_behind, first_fault_behind, late_fault, lines_above_fault, number_behind, streamed_table, all_but_last, ended_line_rows, ended_lines, sound_line_rows, streamed_line_fault}
 use Rattle.ruled_json.specs.declared.fault.JsonFault.{JsonFault}
 use Rattle.ruled_json.specs.declared.line_table.LineTable.{LineTable}
@@ -25,8 +25,8 @@ use Rattle.ruled_json.specs.declared.line_reader.LineReader.{LineReader}
 -- ---- lines, one more behind those that are read
 
 -- the records on one line more
-pub records-more : (lines : List (List ℕ)) (line : List ℕ) (found : Option Json) → found ≡ record_on line → records_on (lines ++ line ∷ []) ≡ records_on lines ++ cons_option found []
-records-more lines line found is = filter_map-append record_on lines (line ∷ []) ∙ ap (λ (v : Option Json). records_on lines ++ cons_option v []) (sym is)
+pub records-more : (rules : Rules) (lines : List (List ℕ)) (line : List ℕ) (found : Option Json) → found ≡ record_on rules line → records_on rules (lines ++ line ∷ []) ≡ records_on rules lines ++ cons_option found []
+records-more rules lines line found is = filter_map-append (record_on rules) lines (line ∷ []) ∙ ap (λ (v : Option Json). records_on rules lines ++ cons_option v []) (sym is)
 
 pub number-more : (lines : List (List ℕ)) (line : List ℕ) → number_behind (lines ++ line ∷ []) ≡ line_after (number_behind lines) line
 number-more lines line = fold-append line_after 1 lines (line ∷ [])
@@ -63,34 +63,35 @@ same-records k above t new has left names held null =
 
 -- a table with a sound line more
 pub lines-more : (k : LineRules) (lines : List (List ℕ)) (line : List ℕ) (t new : LineTable) → HasLines k lines t → fault_behind k lines line ≡ None
-    → HasRecords k (records_on (lines ++ line ∷ [])) new → new.number ≡ line_after t.number line → HasLines k (lines ++ line ∷ []) new
-lines-more k lines line t new has none records number = record {
+    → HasRecords k (records_on k.members (lines ++ line ∷ [])) new → new.is_flat ≡ t.is_flat → new.number ≡ line_after t.number line → HasLines k (lines ++ line ∷ []) new
+lines-more k lines line t new has none records flat number = record {
   has = records;
+  flat = flat ∙ has.flat;
   number = number ∙ ap (λ (n : ℕ). line_after n line) has.number ∙ sym (number-more lines line);
   right = right-more k lines line none has.right;
   above = above-more k lines line none has.above;
 }
 
-pub with-record : (k : LineRules) (lines : List (List ℕ)) (line : List ℕ) (v : Json) (new : LineTable) → Some v ≡ record_on line → HasRecords k (records_on lines ++ v ∷ []) new
-    → HasRecords k (records_on (lines ++ line ∷ [])) new
-with-record k lines line v new is has = subst (λ (rs : List Json). HasRecords k rs new) (sym (records-more lines line (Some v) is)) has
+pub with-record : (k : LineRules) (lines : List (List ℕ)) (line : List ℕ) (v : Json) (new : LineTable) → Some v ≡ record_on k.members line → HasRecords k (records_on k.members lines ++ v ∷ []) new
+    → HasRecords k (records_on k.members (lines ++ line ∷ [])) new
+with-record k lines line v new is has = subst (λ (rs : List Json). HasRecords k rs new) (sym (records-more k.members lines line (Some v) is)) has
 
-pub no-record : (lines : List (List ℕ)) (line : List ℕ) → None ≡ record_on line → records_on (lines ++ line ∷ []) ≡ records_on lines
-no-record lines line is = records-more lines line None is ∙ append-nil (records_on lines)
+pub no-record : (rules : Rules) (lines : List (List ℕ)) (line : List ℕ) → None ≡ record_on rules line → records_on rules (lines ++ line ∷ []) ≡ records_on rules lines
+no-record rules lines line is = records-more rules lines line None is ∙ append-nil (records_on rules lines)
 
-pub without-record : (k : LineRules) (lines : List (List ℕ)) (line : List ℕ) (t new : LineTable) → None ≡ record_on line → HasRecords k (records_on lines) t
-    → new.left ≡ t.left → new.names ≡ t.names → new.held ≡ t.held → new.null ≡ t.null → HasRecords k (records_on (lines ++ line ∷ [])) new
+pub without-record : (k : LineRules) (lines : List (List ℕ)) (line : List ℕ) (t new : LineTable) → None ≡ record_on k.members line → HasRecords k (records_on k.members lines) t
+    → new.left ≡ t.left → new.names ≡ t.names → new.held ≡ t.held → new.null ≡ t.null → HasRecords k (records_on k.members (lines ++ line ∷ [])) new
 without-record k lines line t new is has left names held null =
-    subst (λ (rs : List Json). HasRecords k rs new) (sym (no-record lines line is)) (same-records k (records_on lines) t new has left names held null)
+    subst (λ (rs : List Json). HasRecords k rs new) (sym (no-record k.members lines line is)) (same-records k (records_on k.members lines) t new has left names held null)
 
-pub with-rows : (k : LineRules) (lines : List (List ℕ)) (line : List ℕ) (v : Json) (old new : List (List (List ℕ))) → Some v ≡ record_on line
-    → AppendsRest (ended_table k (records_on lines)) (ended_table k (records_on lines ++ v ∷ [])) old new
-    → AppendsRest (ended_table k (records_on lines)) (ended_table k (records_on (lines ++ line ∷ []))) old new
-with-rows k lines line v old new is rest = (rest.0, rest.1, rest.2 ∙ ap (ended_table k) (sym (records-more lines line (Some v) is)))
+pub with-rows : (k : LineRules) (lines : List (List ℕ)) (line : List ℕ) (v : Json) (old new : List (List (List ℕ))) → Some v ≡ record_on k.members line
+    → AppendsRest (ended_table k (records_on k.members lines)) (ended_table k (records_on k.members lines ++ v ∷ [])) old new
+    → AppendsRest (ended_table k (records_on k.members lines)) (ended_table k (records_on k.members (lines ++ line ∷ []))) old new
+with-rows k lines line v old new is rest = (rest.0, rest.1, rest.2 ∙ ap (ended_table k) (sym (records-more k.members lines line (Some v) is)))
 
-pub no-rows : (k : LineRules) (lines : List (List ℕ)) (line : List ℕ) (old : List (List (List ℕ))) → None ≡ record_on line
-    → AppendsRest (ended_table k (records_on lines)) (ended_table k (records_on (lines ++ line ∷ []))) old old
-no-rows k lines line old is = ([], sym (append-nil old), append-nil (ended_table k (records_on lines)) ∙ ap (ended_table k) (sym (no-record lines line is)))
+pub no-rows : (k : LineRules) (lines : List (List ℕ)) (line : List ℕ) (old : List (List (List ℕ))) → None ≡ record_on k.members line
+    → AppendsRest (ended_table k (records_on k.members lines)) (ended_table k (records_on k.members (lines ++ line ∷ []))) old old
+no-rows k lines line old is = ([], sym (append-nil old), append-nil (ended_table k (records_on k.members lines)) ∙ ap (ended_table k) (sym (no-record k.members lines line is)))
 
 -- where no line is left
 pub all-right : (k : LineRules) (lines : List (List ℕ)) (t : LineTable) → HasLines k lines t → first_fault_behind k [] lines ≡ None
@@ -111,23 +112,23 @@ lines-above k lines behind line t fault has wrong =
     has.above (line ∷ behind) ∙ ap (λ (found : Option JsonFault). if is_none found then lines_above_fault k (lines ++ line ∷ []) behind else lines) wrong
 
 -- what is wrong with a line, by what is found on it
-pub blank-sound : (k : LineRules) (n : ℕ) (lines : List (List ℕ)) (line : List ℕ) → n ≡ number_behind lines → line_fault n line ≡ None → None ≡ record_on line → fault_behind k lines line ≡ None
+pub blank-sound : (k : LineRules) (n : ℕ) (lines : List (List ℕ)) (line : List ℕ) → n ≡ number_behind lines → line_fault n line ≡ None → None ≡ record_on k.members line → fault_behind k lines line ≡ None
 blank-sound k n lines line at none blank =
     let here : line_fault (number_behind lines) line ≡ None = ap (λ (m : ℕ). line_fault m line) (sym at) ∙ none in
-    ap (λ (fault : Option JsonFault). option_or fault (option_and_then (late_fault k (records_on lines) (number_behind lines)) (record_on line))) here
-    ∙ ap (option_and_then (late_fault k (records_on lines) (number_behind lines))) (sym blank)
+    ap (λ (fault : Option JsonFault). option_or fault (option_and_then (late_fault k (records_on k.members lines) (number_behind lines)) (record_on k.members line))) here
+    ∙ ap (option_and_then (late_fault k (records_on k.members lines) (number_behind lines))) (sym blank)
 
-pub record-fault : (k : LineRules) (n : ℕ) (lines : List (List ℕ)) (line : List ℕ) (v : Json) → n ≡ number_behind lines → line_fault n line ≡ None → Some v ≡ record_on line
-    → fault_behind k lines line ≡ late_fault k (records_on lines) n v
+pub record-fault : (k : LineRules) (n : ℕ) (lines : List (List ℕ)) (line : List ℕ) (v : Json) → n ≡ number_behind lines → line_fault n line ≡ None → Some v ≡ record_on k.members line
+    → fault_behind k lines line ≡ late_fault k (records_on k.members lines) n v
 record-fault k n lines line v at none is =
     let here : line_fault (number_behind lines) line ≡ None = ap (λ (m : ℕ). line_fault m line) (sym at) ∙ none in
-    ap (λ (fault : Option JsonFault). option_or fault (option_and_then (late_fault k (records_on lines) (number_behind lines)) (record_on line))) here
-    ∙ ap (option_and_then (late_fault k (records_on lines) (number_behind lines))) (sym is) ∙ ap (λ (m : ℕ). late_fault k (records_on lines) m v) (sym at)
+    ap (λ (fault : Option JsonFault). option_or fault (option_and_then (late_fault k (records_on k.members lines) (number_behind lines)) (record_on k.members line))) here
+    ∙ ap (option_and_then (late_fault k (records_on k.members lines) (number_behind lines))) (sym is) ∙ ap (λ (m : ℕ). late_fault k (records_on k.members lines) m v) (sym at)
 
 pub line-bad : (k : LineRules) (n : ℕ) (lines : List (List ℕ)) (line : List ℕ) (fault : JsonFault) → n ≡ number_behind lines → line_fault n line ≡ Some fault → fault_behind k lines line ≡ Some fault
 line-bad k n lines line fault at wrong =
     let here : line_fault (number_behind lines) line ≡ Some fault = ap (λ (m : ℕ). line_fault m line) (sym at) ∙ wrong in
-    ap (λ (found : Option JsonFault). option_or found (option_and_then (late_fault k (records_on lines) (number_behind lines)) (record_on line))) here
+    ap (λ (found : Option JsonFault). option_or found (option_and_then (late_fault k (records_on k.members lines) (number_behind lines)) (record_on k.members line))) here
 
 -- ---- where all records say columns
 
@@ -136,49 +137,49 @@ few None records n h = omega arith
 few (Some v) records n h = omega arith
 
 -- so many lines hold no more records
-pub few-records : (lines : List (List ℕ)) → length (records_on lines) ≤ length lines
-few-records [] = omega arith
-few-records (line ∷ lines) = omega (arith, few (record_on line) (records_on lines) (length lines) (few-records lines))
+pub few-records : (rules : Rules) (lines : List (List ℕ)) → length (records_on rules lines) ≤ length lines
+few-records rules [] = omega arith
+few-records rules (line ∷ lines) = omega (arith, few (record_on rules line) (records_on rules lines) (length lines) (few-records rules lines))
 
 count-more : (found : Option Json) (records : List Json) → length (cons_option found records) ≡ length (cons_option found []) + length records
 count-more None records = omega arith
 count-more (Some v) records = omega arith
 
-moved : (above : List (List ℕ)) (line : List ℕ) (lines : List (List ℕ)) (k : ℕ) → length (records_on above) + length (records_on (line ∷ lines)) ≤ k
-    → length (records_on (above ++ line ∷ [])) + length (records_on lines) ≤ k
-moved above line lines k h =
-    let one : length (records_on (above ++ line ∷ [])) ≡ length (records_on above) + length (cons_option (record_on line) []) =
-    ap (λ (rs : List Json). length rs) (records-more above line (record_on line) refl) ∙ length-append (records_on above) (cons_option (record_on line) []) in
-    omega (arith, one, count-more (record_on line) (records_on lines))
+moved : (rules : Rules) (above : List (List ℕ)) (line : List ℕ) (lines : List (List ℕ)) (k : ℕ) → length (records_on rules above) + length (records_on rules (line ∷ lines)) ≤ k
+    → length (records_on rules (above ++ line ∷ [])) + length (records_on rules lines) ≤ k
+moved rules above line lines k h =
+    let one : length (records_on rules (above ++ line ∷ [])) ≡ length (records_on rules above) + length (cons_option (record_on rules line) []) =
+    ap (λ (rs : List Json). length rs) (records-more rules above line (record_on rules line) refl) ∙ length-append (records_on rules above) (cons_option (record_on rules line) []) in
+    omega (arith, one, count-more (record_on rules line) (records_on rules lines))
 
-record-fits : (k : ℕ) (above : List (List ℕ)) (line : List ℕ) (lines : List (List ℕ)) → length (records_on above) + length (records_on (line ∷ lines)) ≤ k
-    → length (records_on above) + length (cons_option (record_on line) []) ≤ k
-record-fits k above line lines h = omega (arith, count-more (record_on line) (records_on lines))
+record-fits : (rules : Rules) (k : ℕ) (above : List (List ℕ)) (line : List ℕ) (lines : List (List ℕ)) → length (records_on rules above) + length (records_on rules (line ∷ lines)) ≤ k
+    → length (records_on rules above) + length (cons_option (record_on rules line) []) ≤ k
+record-fits rules k above line lines h = omega (arith, count-more (record_on rules line) (records_on rules lines))
 
 or-none : {X : Type 0} (found : Option X) → option_or found None ≡ found
 or-none None = refl
 or-none (Some x) = refl
 
-same-here : (k : LineRules) (above : List (List ℕ)) (line : List ℕ) (found : Option Json) → found ≡ record_on line → length (records_on above) + length (cons_option found []) ≤ k.records
+same-here : (k : LineRules) (above : List (List ℕ)) (line : List ℕ) (found : Option Json) → found ≡ record_on k.members line → length (records_on k.members above) + length (cons_option found []) ≤ k.records
     → fault_behind k above line ≡ line_fault (number_behind above) line
 same-here k above line None is fits =
-    ap (λ (v : Option Json). option_or (line_fault (number_behind above) line) (option_and_then (late_fault k (records_on above) (number_behind above)) v)) (sym is)
+    ap (λ (v : Option Json). option_or (line_fault (number_behind above) line) (option_and_then (late_fault k (records_on k.members above) (number_behind above)) v)) (sym is)
     ∙ or-none (line_fault (number_behind above) line)
 same-here k above line (Some v) is fits =
-    ap (λ (w : Option Json). option_or (line_fault (number_behind above) line) (option_and_then (late_fault k (records_on above) (number_behind above)) w)) (sym is)
-    ∙ ap (option_or (line_fault (number_behind above) line)) (no-late-fault k (number_behind above) (records_on above) v (omega arith)) ∙ or-none (line_fault (number_behind above) line)
+    ap (λ (w : Option Json). option_or (line_fault (number_behind above) line) (option_and_then (late_fault k (records_on k.members above) (number_behind above)) w)) (sym is)
+    ∙ ap (option_or (line_fault (number_behind above) line)) (no-late-fault k (number_behind above) (records_on k.members above) v (omega arith)) ∙ or-none (line_fault (number_behind above) line)
 
 both-none : (first second : Option JsonFault) → option_or first second ≡ None → (first ≡ None) × (second ≡ None)
 both-none None second e = (refl, e)
 both-none (Some fault) second e = absurd (cc)
 
-pub same-fault : (k : LineRules) (above lines : List (List ℕ)) → length (records_on above) + length (records_on lines) ≤ k.records → first_fault_behind k above lines ≡ first_line_fault (number_behind above) lines
+pub same-fault : (k : LineRules) (above lines : List (List ℕ)) → length (records_on k.members above) + length (records_on k.members lines) ≤ k.records → first_fault_behind k above lines ≡ first_line_fault (number_behind above) lines
 same-fault k above [] enough = refl
 same-fault k above (line ∷ lines) enough =
     let n : ℕ = number_behind above in
     let later : first_fault_behind k (above ++ line ∷ []) lines ≡ first_line_fault (line_after n line) lines =
-    same-fault k (above ++ line ∷ []) lines (moved above line lines k.records enough) ∙ ap (λ (m : ℕ). first_line_fault m lines) (number-more above line) in
-    ap (λ (fault : Option JsonFault). option_or fault (first_fault_behind k (above ++ line ∷ []) lines)) (same-here k above line (record_on line) refl (record-fits k.records above line lines enough))
+    same-fault k (above ++ line ∷ []) lines (moved k.members above line lines k.records enough) ∙ ap (λ (m : ℕ). first_line_fault m lines) (number-more above line) in
+    ap (λ (fault : Option JsonFault). option_or fault (first_fault_behind k (above ++ line ∷ []) lines)) (same-here k above line (record_on k.members line) refl (record-fits k.members k.records above line lines enough))
     ∙ ap (option_or (line_fault n line)) later
 
 pub all-above : (k : LineRules) (above lines : List (List ℕ)) → first_fault_behind k above lines ≡ None → lines_above_fault k above lines ≡ above ++ lines
@@ -295,10 +296,10 @@ module _ (k : LineRules) (before bytes text : List ℕ) (reader : LineReader) (h
   }
 
   pub rows-more : (old new : List (List (List ℕ)))
-      → AppendsRest (ended_table k (records_on (ended_lines before))) (ended_table k (records_on (ended_lines before ++ without_front reader.is_front text ∷ []))) old new
+      → AppendsRest (ended_table k (records_on k.members (ended_lines before))) (ended_table k (records_on k.members (ended_lines before ++ without_front reader.is_front text ∷ []))) old new
       → AppendsRest (ended_line_rows k before) (ended_line_rows k (before ++ (bytes ++ 10 ∷ []))) old new
   unfolding ended_line_rows
-  rows-more old new rest = (rest.0, rest.1, rest.2 ∙ ap (λ (lines : List (List ℕ)). ended_table k (records_on lines)) (sym ended-more))
+  rows-more old new rest = (rest.0, rest.1, rest.2 ∙ ap (λ (lines : List (List ℕ)). ended_table k (records_on k.members lines)) (sym ended-more))
 
   pub fault-is : (behind : List ℕ) (fault : JsonFault) → fault_behind k (ended_lines before) (without_front reader.is_front text) ≡ Some fault
       → streamed_line_fault k (before ++ (bytes ++ 10 ∷ behind)) ≡ Some fault
@@ -307,12 +308,12 @@ module _ (k : LineRules) (before bytes text : List ℕ) (reader : LineReader) (h
       ap (first_fault_behind k []) (lines-are behind) ∙ bad-line k (ended_lines before) (lines_of behind) (without_front reader.is_front text) reader.table fault has.table wrong
 
   pub rows-above : (behind : List ℕ) (fault : JsonFault) (old new : List (List (List ℕ))) → fault_behind k (ended_lines before) (without_front reader.is_front text) ≡ Some fault
-      → AppendsRest (ended_table k (records_on (ended_lines before))) (streamed_table k (records_on (ended_lines before))) old new
+      → AppendsRest (ended_table k (records_on k.members (ended_lines before))) (streamed_table k (records_on k.members (ended_lines before))) old new
       → AppendsRest (ended_line_rows k before) (sound_line_rows k (before ++ (bytes ++ 10 ∷ behind))) old new
   unfolding ended_line_rows sound_line_rows
   rows-above behind fault old new wrong rest =
       let lines = ap (lines_above_fault k []) (lines-are behind) ∙ lines-above k (ended_lines before) (lines_of behind) (without_front reader.is_front text) reader.table fault has.table wrong in
-      (rest.0, rest.1, rest.2 ∙ ap (λ (ls : List (List ℕ)). streamed_table k (records_on ls)) (sym lines))
+      (rest.0, rest.1, rest.2 ∙ ap (λ (ls : List (List ℕ)). streamed_table k (records_on k.members ls)) (sym lines))
 
 -- ---- the bytes behind the last line feed
 
@@ -354,7 +355,7 @@ module _ (k : LineRules) (before bytes : List ℕ) (reader : LineReader) (has : 
 
   pub rows-on : (old : List (List (List ℕ))) → AppendsRest (ended_line_rows k before) (ended_line_rows k (before ++ bytes)) old old
   unfolding ended_line_rows
-  rows-on old = ([], sym (append-nil old), append-nil (ended_table k (records_on (ended_lines before))) ∙ ap (λ (lines : List (List ℕ)). ended_table k (records_on lines)) (sym same-ended))
+  rows-on old = ([], sym (append-nil old), append-nil (ended_table k (records_on k.members (ended_lines before))) ∙ ap (λ (lines : List (List ℕ)). ended_table k (records_on k.members lines)) (sym same-ended))
 
 -- ---- the last line
 
@@ -370,12 +371,12 @@ module _ (k : LineRules) (bytes : List ℕ) (reader : LineReader) (has : HasRead
   last-right new table = ap (first_fault_behind k []) last-line ∙ all-right k (ended_lines bytes ++ without_front reader.is_front reader.line.items ∷ []) new table
 
   pub last-rows : (new : LineTable) (old rows : List (List (List ℕ))) → HasLines k (ended_lines bytes ++ without_front reader.is_front reader.line.items ∷ []) new
-      → AppendsRest (ended_table k (records_on (ended_lines bytes))) (streamed_table k (records_on (ended_lines bytes ++ without_front reader.is_front reader.line.items ∷ []))) old rows
+      → AppendsRest (ended_table k (records_on k.members (ended_lines bytes))) (streamed_table k (records_on k.members (ended_lines bytes ++ without_front reader.is_front reader.line.items ∷ []))) old rows
       → AppendsRest (ended_line_rows k bytes) (sound_line_rows k bytes) old rows
   unfolding ended_line_rows sound_line_rows
   last-rows new old rows table rest =
       let lines = ap (lines_above_fault k []) last-line ∙ all-lines k (ended_lines bytes ++ without_front reader.is_front reader.line.items ∷ []) new table in
-      (rest.0, rest.1, rest.2 ∙ ap (λ (ls : List (List ℕ)). streamed_table k (records_on ls)) (sym lines))
+      (rest.0, rest.1, rest.2 ∙ ap (λ (ls : List (List ℕ)). streamed_table k (records_on k.members ls)) (sym lines))
 
   pub last-fault : (fault : JsonFault) → fault_behind k (ended_lines bytes) (without_front reader.is_front reader.line.items) ≡ Some fault → streamed_line_fault k bytes ≡ Some fault
   unfolding streamed_line_fault
@@ -383,9 +384,9 @@ module _ (k : LineRules) (bytes : List ℕ) (reader : LineReader) (has : HasRead
       ap (first_fault_behind k []) last-line ∙ bad-line k (ended_lines bytes) [] (without_front reader.is_front reader.line.items) reader.table fault has.table wrong
 
   pub last-above : (fault : JsonFault) (old new : List (List (List ℕ))) → fault_behind k (ended_lines bytes) (without_front reader.is_front reader.line.items) ≡ Some fault
-      → AppendsRest (ended_table k (records_on (ended_lines bytes))) (streamed_table k (records_on (ended_lines bytes))) old new
+      → AppendsRest (ended_table k (records_on k.members (ended_lines bytes))) (streamed_table k (records_on k.members (ended_lines bytes))) old new
       → AppendsRest (ended_line_rows k bytes) (sound_line_rows k bytes) old new
   unfolding ended_line_rows sound_line_rows
   last-above fault old new wrong rest =
       let lines = ap (lines_above_fault k []) last-line ∙ lines-above k (ended_lines bytes) [] (without_front reader.is_front reader.line.items) reader.table fault has.table wrong in
-      (rest.0, rest.1, rest.2 ∙ ap (λ (ls : List (List ℕ)). streamed_table k (records_on ls)) (sym lines))
+      (rest.0, rest.1, rest.2 ∙ ap (λ (ls : List (List ℕ)). streamed_table k (records_on k.members ls)) (sym lines))

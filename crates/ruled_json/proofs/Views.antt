@@ -18,7 +18,7 @@ use Rattle.json.proofs.Numbered.{HasNumbers-get}
 use Rattle.std.proofs.lemmas.Bool.{cases_Bool, and_parts}
 use Rattle.std.proofs.lemmas.List.{get_or-map, length-map, map-append}
 use Rattle.std.proofs.lemmas.List.Elements.{All-cons, All-nil}
-use Rattle.ruled_json.specs.Rows.{Rules, list_of, member_at, names_in, records_in, records_of, rows_of, table_of, with_name}
+use Rattle.ruled_json.specs.Rows.{Rules, list_of, member_at, names_in, records_in, records_of, rows_of, shown_record, table_of, with_name}
 use Rattle.std.specs.Prelude.{◌↔◌, option_and_then, is_some, IfOk, IsSome, IsTrue, ◌==◌}
 use Rattle.std.specs.Option.{option_map_or, option_or}
 use Rattle.std.specs.Result.{IsErrAnd}
@@ -159,11 +159,11 @@ module _ (path : List (List ℕ)) (bytes : List ℕ) where
     member_lacks at = value_told value right is ∙ ap (λ (m : Option Json). option_map_or value_fault m (Some NoMember)) (sym at)
 
 pub member_rows : (rules : Rules) (bytes : List ℕ) (value member : Json) → document bytes ≡ Some value → Some member ≡ member_at rules.path value
-    → rows_of rules bytes ≡ table_of rules.null_text (records_in member)
+    → rows_of rules bytes ≡ table_of rules.null_text (map (shown_record rules.is_flat) (records_in member))
 unfolding rows_of
 member_rows rules bytes value member is at =
-    ap (λ (v : Option Json). table_of rules.null_text (records_of (option_and_then (member_at rules.path) v))) is
-    ∙ ap (λ (m : Option Json). table_of rules.null_text (records_of m)) (sym at)
+    ap (λ (v : Option Json). table_of rules.null_text (map (shown_record rules.is_flat) (records_of (option_and_then (member_at rules.path) v)))) is
+    ∙ ap (λ (m : Option Json). table_of rules.null_text (map (shown_record rules.is_flat) (records_of m))) (sym at)
 
 -- whether bytes are one value
 same_truth : (a b : Bool) → (a ≡ true → b ≡ true) → (b ≡ true → a ≡ true) → a ≡ b

@@ -29,7 +29,8 @@ pub record HasRecords (rules : LineRules) (above : List Json) (table : LineTable
 
 -- a table has read these lines, and found nothing wrong
 pub record HasLines (rules : LineRules) (lines : List (List ℕ)) (table : LineTable) : Type 0 where
-  pub has : HasRecords rules (records_on lines) table
+  pub has : HasRecords rules (records_on rules.members lines) table
+  pub flat : table.is_flat ≡ rules.members.is_flat
   pub number : table.number ≡ number_behind lines
   pub right : (behind : List (List ℕ)) → first_fault_behind rules [] (lines ++ behind) ≡ first_fault_behind rules lines behind
   pub above : (behind : List (List ℕ)) → lines_above_fault rules [] (lines ++ behind) ≡ lines_above_fault rules lines behind

@@ -1,9 +1,9 @@
 -- The rows that JSON holds: a header, and a row for each record.
-use Rattle.std.specs.Prelude.{ℕ, ◌==◌, List, [], ◌∷◌, ◌++◌, map, fold, length, flat_map, string_bytes, Bool, Option, Some, None, option_and_then, if◌then◌else◌}
+use Rattle.std.specs.Prelude.{ℕ, ◌==◌, List, [], ◌∷◌, ◌++◌, map, fold, length, flat_map, string_bytes, codes, Bool, false, Option, Some, None, option_and_then, option_map, if◌then◌else◌}
 use Rattle.std.specs.List.{filter_map, list_all, list_any, slice_split}
 use Rattle.std.specs.Str.{bytes_eq}
 use Rattle.json.specs.Find.{get}
-use Rattle.json.specs.Json.{Json, null, boolean, number, string, array, object, Items, no_items, item, document}
+use Rattle.json.specs.Json.{Json, null, boolean, number, string, array, object, Items, no_items, item, Members, no_members, member, document}
 use Rattle.json.specs.Print.{print}
 use Rattle.json.specs.Strict.{keys}
 use Rattle.json.specs.Tree.{json_tokens}
@@ -12,17 +12,46 @@ use Rattle.ruled_json.specs.declared.member_names.MemberRules.{MemberRules}
 
 -- ---- rules
 
--- the path of the member that has the records, and the text for null
+-- the path of the member that has the records, the text for null, and whether records are flat: members of an object inside
+-- are members of the record
 pub record Rules : Type 0 where
   pub path : List (List ℕ)
   pub null_text : List ℕ
+  pub is_flat : Bool
 
 abbrev pub rules_of : MemberRules → Rules
-rules_of rules = record { path = map string_bytes rules.path.items; null_text = string_bytes rules.null }
+rules_of rules = record { path = map string_bytes rules.path.items; null_text = string_bytes rules.null; is_flat = rules.is_flat }
 
 -- the value itself has the records, and nothing is shown for null
 abbrev pub plain_rules : Rules
-plain_rules = record { path = []; null_text = [] }
+plain_rules = record { path = []; null_text = []; is_flat = false }
+
+-- ---- flat records
+
+-- members behind others
+abbrev pub joined : Members → Members → Members
+joined no_members behind = behind
+joined (member name value members) behind = member name value (joined members behind)
+
+-- members, each behind this text; those of an object come in its place, behind its name and a dot, and an array is its text
+abbrev mutual
+  pub flat_members : List ℕ → Members → Members
+  flat_members front no_members = no_members
+  flat_members front (member name value members) = joined (flat_member (front ++ name) value) (flat_members front members)
+
+  pub flat_member : List ℕ → Json → Members
+  flat_member name (object ms) = flat_members (name ++ codes ".") ms
+  flat_member name (array js) = member name (string (print (json_tokens (array js)))) no_members
+  flat_member name value = member name value no_members
+
+-- a record with no object inside
+abbrev pub flat_record : Json → Json
+flat_record (object ms) = object (flat_members [] ms)
+flat_record _ = object no_members
+
+-- a record as it is shown
+abbrev pub shown_record : Bool → Json → Json
+shown_record is_flat value = if is_flat then flat_record value else value
 
 -- ---- columns
 
@@ -101,7 +130,7 @@ records_of (Some value) = records_in value
 
 -- the rows of the member at the path of the value that these bytes are
 unfoldable pub rows_of : Rules → List ℕ → List (List (List ℕ))
-rows_of rules bytes = table_of rules.null_text (records_of (option_and_then (member_at rules.path) (document bytes)))
+rows_of rules bytes = table_of rules.null_text (map (shown_record rules.is_flat) (records_of (option_and_then (member_at rules.path) (document bytes))))
 
 -- ---- a record on each line
 
@@ -113,12 +142,15 @@ lines_of bytes = slice_split (λ byte. byte == 10) bytes
 abbrev pub is_blank : List ℕ → Bool
 is_blank line = list_all is_space line
 
-abbrev pub record_on : List ℕ → Option Json
-record_on line = if is_blank line then None else document line
+abbrev pub value_on : List ℕ → Option Json
+value_on line = if is_blank line then None else document line
 
-abbrev pub records_on : List (List ℕ) → List Json
-records_on lines = filter_map record_on lines
+abbrev pub record_on : Rules → List ℕ → Option Json
+record_on rules line = option_map (shown_record rules.is_flat) (value_on line)
+
+abbrev pub records_on : Rules → List (List ℕ) → List Json
+records_on rules lines = filter_map (record_on rules) lines
 
 -- the rows of the values that the lines of these bytes are
 unfoldable pub line_rows_of : Rules → List ℕ → List (List (List ℕ))
-line_rows_of rules bytes = table_of rules.null_text (records_on (lines_of bytes))
+line_rows_of rules bytes = table_of rules.null_text (records_on rules (lines_of bytes))

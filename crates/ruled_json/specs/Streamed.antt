@@ -46,7 +46,7 @@ module _ (rules : LineRules) (above : List Json) where
 -- what is wrong with a line behind these
 abbrev pub fault_behind : LineRules → List (List ℕ) → List ℕ → Option JsonFault
 fault_behind rules above line =
-    option_or (line_fault (number_behind above) line) (option_and_then (late_fault rules (records_on above) (number_behind above)) (record_on line))
+    option_or (line_fault (number_behind above) line) (option_and_then (late_fault rules (records_on rules.members above) (number_behind above)) (record_on rules.members line))
 
 -- and with the first bad one of lines behind these
 abbrev pub first_fault_behind : LineRules → List (List ℕ) → List (List ℕ) → Option JsonFault
@@ -66,7 +66,7 @@ streamed_line_fault rules bytes = first_fault_behind rules [] (lines_of (strip_b
 
 -- the rows above the first bad line
 unfoldable pub sound_line_rows : LineRules → List ℕ → List (List (List ℕ))
-sound_line_rows rules bytes = streamed_table rules (records_on (lines_above_fault rules [] (lines_of (strip_bom bytes))))
+sound_line_rows rules bytes = streamed_table rules (records_on rules.members (lines_above_fault rules [] (lines_of (strip_bom bytes))))
 
 -- the lines that a line feed ends: all but the last one
 abbrev pub all_but_last : List (List ℕ) → List (List ℕ)
@@ -77,4 +77,4 @@ ended_lines bytes = all_but_last (lines_of (strip_bom bytes))
 
 -- their rows
 unfoldable pub ended_line_rows : LineRules → List ℕ → List (List (List ℕ))
-ended_line_rows rules bytes = ended_table rules (records_on (ended_lines bytes))
+ended_line_rows rules bytes = ended_table rules (records_on rules.members (ended_lines bytes))

@@ -6,6 +6,7 @@ mod line_reader;
 mod line_table;
 mod lines;
 mod member_names;
+mod objects;
 mod place;
 mod value;
 mod walk;

@@ -15,7 +15,9 @@ ghost use Rattle.ruled_json.specs.declared.place.Place.TheVariants.{Line};
 use crate::fault::JsonFault;
 use crate::lines::{line_after, lines_of, record_on};
 use crate::member_names::{MemberNames, MemberRules};
+use crate::objects::flat_record;
 use crate::place::Place;
+use bumpalo::Bump;
 use csv::StringRecord;
 use json::{Scratch, Value};
 use std::alloc::{AllocError, Global};
@@ -27,6 +29,8 @@ pub(crate) struct LineTable {
     alloc: Global,
     // The text for null.
     null: String,
+    // Whether records are flat.
+    is_flat: bool,
     // The columns.
     names: MemberNames,
     // How many records are still to come whose members are columns.
@@ -51,6 +55,7 @@ impl LineTable {
         Ok(LineTable {
             alloc,
             null,
+            is_flat: rules.is_flat,
             names: MemberNames::new(alloc),
             left: records,
             held: Vec::new(alloc),
@@ -60,7 +65,7 @@ impl LineTable {
 
     // Appends the header and the held rows.
     fn push_held(&mut self, rows: &mut Vec<StringRecord>) -> Result<(), AllocError>
-        ensures kept { (self.new.names ≡ self.old.names) × (self.new.left ≡ self.old.left) × (self.new.number ≡ self.old.number) × (self.new.null ≡ self.old.null) }
+        ensures kept { (self.new.names ≡ self.old.names) × (self.new.left ≡ self.old.left) × (self.new.number ≡ self.old.number) × (self.new.null ≡ self.old.null) × (self.new.is_flat ≡ self.old.is_flat) }
         ensures rows { (word : List ℕ) (records : List Json)
             → map (padded (length (columns_in self.old))) (map fields_of self.old.held.items) ≡ map (row_of word (columns_in self.old)) records
             → OnOk result (map fields_of rows.new.items ≡ map fields_of rows.old.items ++ table_in word (columns_in self.old) records) }
@@ -81,7 +86,7 @@ impl LineTable {
     // Holds the row of a record whose members are columns.
     fn hold(&mut self, value: &Value<'_>) -> Result<(), AllocError>
         requires numbers { HasNumbers (value_view value.now) }
-        ensures kept { (self.new.left ≡ self.old.left) × (self.new.number ≡ self.old.number) × (self.new.null ≡ self.old.null) }
+        ensures kept { (self.new.left ≡ self.old.left) × (self.new.number ≡ self.old.number) × (self.new.null ≡ self.old.null) × (self.new.is_flat ≡ self.old.is_flat) }
         ensures columns { OnOk result (columns_in self.new ≡ fold with_name (columns_in self.old) (names_in (value_view value.now))) }
         ensures held { OnOk result (map fields_of self.new.held.items ≡ map fields_of self.old.held.items ++ row_of (string_bytes self.old.null) (columns_in self.new) (value_view value.now) ∷ []) }
     {
@@ -122,7 +127,7 @@ impl LineTable {
         rows: &mut Vec<StringRecord>,
     ) -> Result<(), JsonFault>
         requires numbers { HasNumbers (value_view value.now) }
-        ensures number { self.new.number ≡ self.old.number }
+        ensures kept { (self.new.number ≡ self.old.number) × (self.new.is_flat ≡ self.old.is_flat) }
         ensures read { (rules : LineRules) (above : List Json) → HasRecords rules above self.old → OnOk result (HasRecords rules (above ++ value_view value.now ∷ []) self.new) }
         ensures rows { (rules : LineRules) (above : List Json) → HasRecords rules above self.old
             → OnOk result (AppendsRest (ended_table rules above) (ended_table rules (above ++ value_view value.now ∷ [])) (map fields_of rows.old.items) (map fields_of rows.new.items)) }
@@ -143,6 +148,7 @@ impl LineTable {
 
     /// Reads a line, and appends the rows that are complete with it. If the line is bad, it appends
     /// the held rows above it.
+    #[tactic(auto, using(crate::proofs::Flat::flat_numbers))]
     pub(crate) fn read(
         &mut self,
         scratch: &mut Scratch,
@@ -151,15 +157,22 @@ impl LineTable {
     ) -> Result<(), JsonFault>
         ensures read { (rules : LineRules) (above : List (List ℕ)) → HasLines rules above self.old → OnOk result (HasLines rules (above ++ line.now ∷ []) self.new) }
         ensures rows { (rules : LineRules) (above : List (List ℕ)) → HasLines rules above self.old
-            → OnOk result (AppendsRest (ended_table rules (records_on above)) (ended_table rules (records_on (above ++ line.now ∷ []))) (map fields_of rows.old.items) (map fields_of rows.new.items)) }
+            → OnOk result (AppendsRest (ended_table rules (records_on rules.members above)) (ended_table rules (records_on rules.members (above ++ line.now ∷ []))) (map fields_of rows.old.items) (map fields_of rows.new.items)) }
         ensures fault { (rules : LineRules) (above : List (List ℕ)) → HasLines rules above self.old → Tells (fault_behind rules above line.now) result }
         ensures sound { (rules : LineRules) (above : List (List ℕ)) → HasLines rules above self.old
-            → OnFault result (AppendsRest (ended_table rules (records_on above)) (streamed_table rules (records_on above)) (map fields_of rows.old.items) (map fields_of rows.new.items)) }
+            → OnFault result (AppendsRest (ended_table rules (records_on rules.members above)) (streamed_table rules (records_on rules.members above)) (map fields_of rows.old.items) (map fields_of rows.new.items)) }
     {
         let number = self.number;
         self.number = line_after(number, line);
         match record_on(self.alloc, scratch, line, number) {
-            Ok(Some(value)) => self.take(number, &value, rows),
+            Ok(Some(value)) => {
+                if self.is_flat {
+                    let texts = Bump::new(self.alloc);
+                    let flat = flat_record(self.alloc, &texts, &value)?;
+                    return self.take(number, &flat, rows);
+                }
+                self.take(number, &value, rows)
+            }
             Ok(None) => Ok(()),
             Err(fault) => {
                 self.finish(rows)?;

@@ -5,7 +5,7 @@ ghost use Rattle.json.specs.Tree.{HasNumbers};
 ghost use Rattle.json.specs.Value.{value_view};
 ghost use Rattle.ruled_json.specs.Faults.{Tells, line_after, line_fault};
 ghost use Rattle.ruled_json.specs.Reading.{NoFeed};
-ghost use Rattle.ruled_json.specs.Rows.{is_blank, lines_of, record_on};
+ghost use Rattle.ruled_json.specs.Rows.{is_blank, lines_of, value_on};
 
 use crate::fault::JsonFault;
 use crate::place::Place;
@@ -80,7 +80,7 @@ pub(crate) fn record_on<'a>(
     line: &'a [u8],
     number: usize,
 ) -> Result<Option<Value<'a>>, JsonFault>
-    ensures value { IfOk result (λ found. option_map value_view found ≡ record_on line.now) }
+    ensures value { IfOk result (λ found. option_map value_view found ≡ value_on line.now) }
     ensures numbers { IfOk result (λ found. IfSome found (λ value. HasNumbers (value_view value))) }
     ensures fault { Tells (line_fault number line.now) result }
 {

@@ -95,6 +95,8 @@ pub struct MemberRules {
     pub path: Vec<String>,
     /// The text for a member that is `null`.
     pub null: String,
+    /// Whether members of objects within records have columns of their own, such as `a.b`, in place of these objects.
+    pub is_flat: bool,
 }
 
 impl MemberRules {
@@ -105,6 +107,7 @@ impl MemberRules {
         MemberRules {
             path: Vec::new(alloc),
             null: String::new(alloc),
+            is_flat: false,
         }
     }
 }

@@ -6,14 +6,16 @@ ghost use Rattle.json.specs.Json.{document};
 ghost use Rattle.json.specs.Tree.{HasNumbers};
 ghost use Rattle.json.specs.Value.{value_view};
 ghost use Rattle.ruled_json.specs.Faults.{Tells, but_near, first_fault, is_value, record_fault, rows_fault, text_fault, value_fault};
-ghost use Rattle.ruled_json.specs.Rows.{columns_of, member_at, records_in, rows_of, rules_of, table_of};
+ghost use Rattle.ruled_json.specs.Rows.{columns_of, member_at, records_in, rows_of, rules_of, shown_record, table_of};
 ghost use Rattle.ruled_json.specs.declared.fault.JsonFault.TheVariants.{Syntax};
 ghost use Rattle.ruled_json.specs.declared.place.Place.TheVariants.{Near};
 
 use crate::fault::JsonFault;
 use crate::member_names::{MemberNames, MemberRules};
+use crate::objects::flat_records;
 use crate::place::Place;
 use crate::walk::offset_of_bad;
+use bumpalo::Bump;
 use csv::StringRecord;
 use json::{Error, Scratch, Value, is_valid};
 use std::alloc::{AllocError, Global};
@@ -137,15 +139,37 @@ fn table_of(
     Ok(rows)
 }
 
-// The rows of a value, with this text for null.
+// The rows of records, flat if so asked, with this text for null.
+fn shown_table(
+    alloc: Global,
+    rules: &MemberRules,
+    records: &[Value<'_>],
+) -> Result<Vec<StringRecord>, AllocError>
+    requires numbers { All HasNumbers (map value_view records.now) }
+    ensures { IfOk result (λ rows. map fields_of rows.items ≡ table_of (string_bytes rules.now.null) (map (shown_record rules.now.is_flat) (map value_view records.now))) }
+{
+    let null = rules.null.as_str();
+    if rules.is_flat {
+        let texts = Bump::new(alloc);
+        let flat = flat_records(alloc, &texts, records)?;
+        return table_of(alloc, null, &flat);
+    }
+    table_of(alloc, null, records)
+}
+
+// The rows of a value, with these rules.
 #[tactic(auto, using(crate::proofs::Views::records_have_numbers))]
-fn rows_in(alloc: Global, null: &str, value: &Value<'_>) -> Result<Vec<StringRecord>, JsonFault>
+fn rows_in(
+    alloc: Global,
+    rules: &MemberRules,
+    value: &Value<'_>,
+) -> Result<Vec<StringRecord>, JsonFault>
     requires numbers { HasNumbers (value_view value.now) }
-    ensures rows { IfOk result (λ rows. map fields_of rows.items ≡ table_of null.now (records_in (value_view value.now))) }
+    ensures rows { IfOk result (λ rows. map fields_of rows.items ≡ table_of (string_bytes rules.now.null) (map (shown_record rules.now.is_flat) (records_in (value_view value.now)))) }
     ensures fault { Tells (value_fault (value_view value.now)) result }
 {
     let records = records_in(value)?;
-    let rows = table_of(alloc, null, records)?;
+    let rows = shown_table(alloc, rules, records)?;
     Ok(rows)
 }
 
@@ -159,6 +183,9 @@ fn rows_in(alloc: Global, null: &str, value: &Value<'_>) -> Result<Vec<StringRec
 /// lacks the member. Of
 /// members with one name the last one counts, also in the path. If no record has a member, there are
 /// no rows.
+///
+/// If records are flat, the members of an object inside come in its place, at any depth, each behind
+/// the object's name and a dot, and names are compared afterwards.
 ///
 /// The fault is that of the text, else that there is no member at the path, else that of this
 /// member, else that of the first record that isn't an object. The only other fault is out of memory,
@@ -178,7 +205,7 @@ pub fn read_rows(
     let mut scratch = Scratch::new(alloc);
     let value = value_of(alloc, &mut scratch, bytes, Place::Near(0))?;
     match member_at(&value, &rules.path) {
-        Some(member) => rows_in(alloc, rules.null.as_str(), member),
+        Some(member) => rows_in(alloc, rules, member),
         None => Err(JsonFault::NoMember),
     }
 }

@@ -57,10 +57,10 @@ returns-clause-rows c =
     let rows = map fields_of c.finish.new.rows.items in
     let all = all-texts lines i (omega arith) in
     let count : k.records ≡ length lines = omega (arith, c.len-count.ensures, c.in_ok-lines.lines.ok.0, ap length c.deref-line-items.ensures.value) in
-    let is : old ≡ ended_table k (records_on (texts lines)) = c.loop-line.invariant.1 ∙ ap (λ (ls : List (List ℕ)). ended_table k (records_on ls)) all in
-    let rest : AppendsRest (ended_table k (records_on (texts lines))) (streamed_table k (records_on (texts lines))) old rows =
-    subst (λ (ls : List (List ℕ)). AppendsRest (ended_table k (records_on ls)) (streamed_table k (records_on ls)) old rows) all
-    (c.in_ok-finish.ensures.rest k (records_on (texts (take i lines))) c.loop-line.invariant.0.has) in
+    let is : old ≡ ended_table k (records_on k.members (texts lines)) = c.loop-line.invariant.1 ∙ ap (λ (ls : List (List ℕ)). ended_table k (records_on k.members ls)) all in
+    let rest : AppendsRest (ended_table k (records_on k.members (texts lines))) (streamed_table k (records_on k.members (texts lines))) old rows =
+    subst (λ (ls : List (List ℕ)). AppendsRest (ended_table k (records_on k.members ls)) (streamed_table k (records_on k.members ls)) old rows) all
+    (c.in_ok-finish.ensures.rest k (records_on k.members (texts (take i lines))) c.loop-line.invariant.0.has) in
     whole-rows k lines c.args.bytes.now old rows count (ap texts c.deref-line-items.ensures.value ∙ c.in_ok-lines.ensures) is rest
 
 pub returns-clause-fault : goal.returns-clause-fault

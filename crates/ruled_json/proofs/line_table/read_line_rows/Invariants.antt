@@ -9,4 +9,4 @@ abbrev pub invariant-loop-line : goal.invariant-loop-line
 invariant-loop-line l =
     let read = map (λ line. line.now) (take l.line-index l.line-items) in
     let rules : LineRules = record { records = l.count; members = rules_of l.rules } in
-    HasLines rules read l.table × (map fields_of l.rows.items ≡ ended_table rules (records_on read))
+    HasLines rules read l.table × (map fields_of l.rows.items ≡ ended_table rules (records_on rules.members read))

@@ -4,7 +4,7 @@ use Rattle.std.proofs.lemmas.List.{nil_from_length}
 use Rattle.csv.specs.Records.{fields_of}
 use Rattle.json.specs.Value.{value_view}
 use Rattle.ruled_json.specs.Faults.{but_line, rows_fault}
-use Rattle.ruled_json.specs.Rows.{member_at, records_in, rules_of, table_of}
+use Rattle.ruled_json.specs.Rows.{member_at, rules_of}
 use Rattle.ruled_json.proofs.Views.{handed_on, member_has_numbers, member_lacks, member_rows, member_told, nothing_told, text_told}
 use Rattle.ruled_json.proofs.value.read_rows.Goals as goal
 
@@ -34,8 +34,7 @@ returns-in-Some-clause-rows c =
     let at : Some (value_view c.in-Some.member.now) ≡ member_at rules.path value =
     c.in-Some.ensures ∙ ap (λ (path : List (String Global)). member_at (map string_bytes path) value) c.deref.ensures.value in
     let is = member_rows rules c.args.bytes.now value (value_view c.in-Some.member.now) c.in_ok-value.ensures.value at in
-    let made = ap (λ (word : List ℕ). table_of word (records_in (value_view c.in-Some.member.now))) c.as_str.ensures.value in
-    subst (λ (all : List (List (List ℕ))). IfOk c.rows_in.result (λ rows. map fields_of rows.items ≡ all)) (made ∙ sym is) c.rows_in.ensures.rows
+    subst (λ (all : List (List (List ℕ))). IfOk c.rows_in.result (λ rows. map fields_of rows.items ≡ all)) (sym is) c.rows_in.ensures.rows
 
 pub returns-in-Some-clause-fault : goal.returns-in-Some-clause-fault
 returns-in-Some-clause-fault c =

@@ -37,7 +37,7 @@ returns-then-is_empty-clause-rows c = λ k before has.
     let is : text ≡ t.line.items ++ bytes = ap (λ (line : List ℕ). line ++ bytes) (sym gone) ∙ ap (λ (line : Vec ℕ Global). line.items ++ bytes) c.replace-line.ensures.value in
     let old = map fields_of c.args.rows.now.items in
     let rows = map fields_of c.read_line.new.rows.items in
-    on-ok c.read_line.result (AppendsRest (ended_table k (records_on above)) (ended_table k (records_on (above ++ line ∷ []))) old rows)
+    on-ok c.read_line.result (AppendsRest (ended_table k (records_on k.members above)) (ended_table k (records_on k.members (above ++ line ∷ []))) old rows)
     (AppendsRest (ended_line_rows k before) (ended_line_rows k (before ++ (bytes ++ 10 ∷ []))) old rows) (rows-more k before bytes text t has is c.requires.within old rows)
     (c.read_line.ensures.rows k above has.table)
 
@@ -68,7 +68,7 @@ returns-then-is_empty-clause-sound c = λ k before behind has.
     let is : text ≡ t.line.items ++ bytes = ap (λ (line : List ℕ). line ++ bytes) (sym gone) ∙ ap (λ (line : Vec ℕ Global). line.items ++ bytes) c.replace-line.ensures.value in
     let old = map fields_of c.args.rows.now.items in
     let rows = map fields_of c.read_line.new.rows.items in
-    on-fault c.read_line.result (fault_behind k above line) (AppendsRest (ended_table k (records_on above)) (streamed_table k (records_on above)) old rows)
+    on-fault c.read_line.result (fault_behind k above line) (AppendsRest (ended_table k (records_on k.members above)) (streamed_table k (records_on k.members above)) old rows)
     (AppendsRest (ended_line_rows k before) (sound_line_rows k (before ++ (bytes ++ 10 ∷ behind))) old rows)
     (λ fault. rows-above k before bytes text t has is c.requires.within behind fault old rows) (c.read_line.ensures.fault k above has.table) (c.read_line.ensures.sound k above has.table)
 
@@ -96,7 +96,7 @@ returns-clause-rows c = λ k before has.
     let is : text ≡ t.line.items ++ bytes = c.as_slice.ensures.value ∙ c.in_ok-push_bytes.ensures ∙ ap (λ (line : Vec ℕ Global). line.items ++ bytes) c.replace-line.ensures.value in
     let old = map fields_of c.args.rows.now.items in
     let rows = map fields_of c.read_line-2.new.rows.items in
-    on-ok c.read_line-2.result (AppendsRest (ended_table k (records_on above)) (ended_table k (records_on (above ++ line ∷ []))) old rows)
+    on-ok c.read_line-2.result (AppendsRest (ended_table k (records_on k.members above)) (ended_table k (records_on k.members (above ++ line ∷ []))) old rows)
     (AppendsRest (ended_line_rows k before) (ended_line_rows k (before ++ (bytes ++ 10 ∷ []))) old rows) (rows-more k before bytes text t has is c.requires.within old rows)
     (c.read_line-2.ensures.rows k above has.table)
 
@@ -123,6 +123,6 @@ returns-clause-sound c = λ k before behind has.
     let is : text ≡ t.line.items ++ bytes = c.as_slice.ensures.value ∙ c.in_ok-push_bytes.ensures ∙ ap (λ (line : Vec ℕ Global). line.items ++ bytes) c.replace-line.ensures.value in
     let old = map fields_of c.args.rows.now.items in
     let rows = map fields_of c.read_line-2.new.rows.items in
-    on-fault c.read_line-2.result (fault_behind k above line) (AppendsRest (ended_table k (records_on above)) (streamed_table k (records_on above)) old rows)
+    on-fault c.read_line-2.result (fault_behind k above line) (AppendsRest (ended_table k (records_on k.members above)) (streamed_table k (records_on k.members above)) old rows)
     (AppendsRest (ended_line_rows k before) (sound_line_rows k (before ++ (bytes ++ 10 ∷ behind))) old rows)
     (λ fault. rows-above k before bytes text t has is c.requires.within behind fault old rows) (c.read_line-2.ensures.fault k above has.table) (c.read_line-2.ensures.sound k above has.table)

@@ -46,13 +46,13 @@ returns-clause-rows c = λ k bytes has.
     let old = map fields_of c.args.rows.now.items in
     let between = map fields_of c.read_line.new.rows.items in
     let rows = map fields_of c.finish.new.rows.items in
-    let all = records_on (above ++ line ∷ []) in
+    let all = records_on k.members (above ++ line ∷ []) in
     let read : HasLines k (above ++ line ∷ []) new =
     subst (λ (l : List ℕ). HasLines k (above ++ without_front t.is_front l ∷ []) new) text (c.in_ok-read_line.ensures.read k above has.table) in
-    let first : AppendsRest (ended_table k (records_on above)) (ended_table k all) old between =
-    subst (λ (l : List ℕ). AppendsRest (ended_table k (records_on above)) (ended_table k (records_on (above ++ without_front t.is_front l ∷ []))) old between) text
+    let first : AppendsRest (ended_table k (records_on k.members above)) (ended_table k all) old between =
+    subst (λ (l : List ℕ). AppendsRest (ended_table k (records_on k.members above)) (ended_table k (records_on k.members (above ++ without_front t.is_front l ∷ []))) old between) text
     (c.in_ok-read_line.ensures.rows k above has.table) in
-    last-rows k bytes t has new old rows read (joined (ended_table k (records_on above)) (ended_table k all) (streamed_table k all) old between rows first (c.in_ok-finish.ensures.rest k all read.has))
+    last-rows k bytes t has new old rows read (joined (ended_table k (records_on k.members above)) (ended_table k all) (streamed_table k all) old between rows first (c.in_ok-finish.ensures.rest k all read.has))
 
 pub returns-clause-fault : goal.returns-clause-fault
 returns-clause-fault c = λ k bytes has.

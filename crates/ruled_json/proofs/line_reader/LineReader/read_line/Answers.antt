@@ -13,7 +13,7 @@ returns-clause-read c = λ k above has.
 pub returns-clause-rows : goal.returns-clause-rows
 returns-clause-rows c = λ k above has.
     subst (λ (line : List ℕ). OnOk c.read.result
-    (AppendsRest (ended_table k (records_on above)) (ended_table k (records_on (above ++ line ∷ []))) (map fields_of c.args.rows.now.items) (map fields_of c.read.new.rows.items)))
+    (AppendsRest (ended_table k (records_on k.members above)) (ended_table k (records_on k.members (above ++ line ∷ []))) (map fields_of c.args.rows.now.items) (map fields_of c.read.new.rows.items)))
     c.line_text-text.ensures (c.read.ensures.rows k above has)
 
 pub returns-clause-fault : goal.returns-clause-fault

@@ -1,48 +1,65 @@
-use Rattle.std.proofs.Common.{◌≡◌, ◌∙◌, ◌∷◌, ◌++◌, [], None, Some, ap, map, option_map, refl, sym}
+use Rattle.std.proofs.Common.{Bool, ◌≡◌, ◌∙◌, ◌∷◌, ◌++◌, [], None, Some, ap, map, option_map, refl, sym}
 use Rattle.csv.specs.Records.{fields_of}
 use Rattle.json.specs.Value.{value_view}
-use Rattle.ruled_json.specs.Reading.{AppendsRest, HasLines, HasRecords}
-use Rattle.ruled_json.specs.Rows.{record_on, records_on}
-use Rattle.ruled_json.specs.Streamed.{ended_table, late_fault}
-use Rattle.ruled_json.proofs.AtOnce.{on-ok, told-ok}
-use Rattle.ruled_json.proofs.StreamedLines.{blank-sound, lines-more, no-rows, record-fault, same-records, with-record, with-rows, without-record}
+use Rattle.ruled_json.specs.Rows.{record_on, records_on, shown_record, value_on}
+use Rattle.ruled_json.proofs.AtOnce.{taken-fault, taken-read, taken-rows}
+use Rattle.ruled_json.proofs.StreamedLines.{blank-sound, lines-more, no-rows, same-records, without-record}
 use Rattle.ruled_json.proofs.line_table.LineTable.read.Goals as goal
 
-pub returns-in-Ok-Some-clause-read : goal.returns-in-Ok-Some-clause-read
-returns-in-Ok-Some-clause-read c = λ k above has.
-    let t = c.args.self.now in
-    let line = c.args.line.now in
-    let v = value_view c.in-Ok-Some.value in
-    let rs = records_on above in
-    let new = c.take.new.self in
-    let is : Some v ≡ record_on line = ap (option_map value_view) (sym c.in-Ok-Some.field-0-is) ∙ c.in-Ok-Some.ensures.value in
-    told-ok c.take.result (late_fault k rs t.number v) (HasRecords k (rs ++ v ∷ []) new) (HasLines k (above ++ line ∷ []) new)
-    (λ none records.
-    lines-more k above line t new has (record-fault k t.number above line v has.number c.in-Ok-Some.ensures.fault is ∙ none) (with-record k above line v new is records)
-    (c.take.ensures.number ∙ c.line_after-self.ensures))
-    (c.take.ensures.fault k rs (same-records k rs t _ has.has refl refl refl refl)) (c.take.ensures.read k rs (same-records k rs t _ has.has refl refl refl refl))
+pub returns-then-self-clause-read : goal.returns-then-self-clause-read
+returns-then-self-clause-read c = λ k above has.
+    taken-read k above c.args.line.now c.args.self.now has c.in-Ok-Some.ensures.fault (value_view c.in-Ok-Some.value) (value_view c.in_ok-flat.flat)
+    (ap (option_map value_view) (sym c.in-Ok-Some.field-0-is) ∙ c.in-Ok-Some.ensures.value) (c.in_ok-flat.ensures ∙ sym (ap (λ (b : Bool). shown_record b (value_view c.in-Ok-Some.value)) c.if-self.true))
+    c.take.result c.take.new.self c.take.ensures.kept.1 (c.take.ensures.kept.0 ∙ c.line_after-self.ensures)
+    (c.take.ensures.fault k (records_on k.members above) (same-records k (records_on k.members above) c.args.self.now _ has.has refl refl refl refl))
+    (c.take.ensures.read k (records_on k.members above) (same-records k (records_on k.members above) c.args.self.now _ has.has refl refl refl refl))
 
-pub returns-in-Ok-Some-clause-rows : goal.returns-in-Ok-Some-clause-rows
-returns-in-Ok-Some-clause-rows c = λ k above has.
-    let line = c.args.line.now in
-    let v = value_view c.in-Ok-Some.value in
-    let rs = records_on above in
-    let old = map fields_of c.args.rows.now.items in
-    let new = map fields_of c.take.new.rows.items in
-    let is : Some v ≡ record_on line = ap (option_map value_view) (sym c.in-Ok-Some.field-0-is) ∙ c.in-Ok-Some.ensures.value in
-    on-ok c.take.result (AppendsRest (ended_table k rs) (ended_table k (rs ++ v ∷ [])) old new) (AppendsRest (ended_table k rs) (ended_table k (records_on (above ++ line ∷ []))) old new)
-    (with-rows k above line v old new is) (c.take.ensures.rows k rs (same-records k rs c.args.self.now _ has.has refl refl refl refl))
+pub returns-then-self-clause-rows : goal.returns-then-self-clause-rows
+returns-then-self-clause-rows c = λ k above has.
+    taken-rows k above c.args.line.now c.args.self.now has c.in-Ok-Some.ensures.fault (value_view c.in-Ok-Some.value) (value_view c.in_ok-flat.flat)
+    (ap (option_map value_view) (sym c.in-Ok-Some.field-0-is) ∙ c.in-Ok-Some.ensures.value) (c.in_ok-flat.ensures ∙ sym (ap (λ (b : Bool). shown_record b (value_view c.in-Ok-Some.value)) c.if-self.true))
+    c.take.result (map fields_of c.args.rows.now.items) (map fields_of c.take.new.rows.items)
+    (c.take.ensures.rows k (records_on k.members above) (same-records k (records_on k.members above) c.args.self.now _ has.has refl refl refl refl))
+
+pub returns-then-self-clause-fault : goal.returns-then-self-clause-fault
+returns-then-self-clause-fault c = λ k above has.
+    taken-fault k above c.args.line.now c.args.self.now has c.in-Ok-Some.ensures.fault (value_view c.in-Ok-Some.value) (value_view c.in_ok-flat.flat)
+    (ap (option_map value_view) (sym c.in-Ok-Some.field-0-is) ∙ c.in-Ok-Some.ensures.value) (c.in_ok-flat.ensures ∙ sym (ap (λ (b : Bool). shown_record b (value_view c.in-Ok-Some.value)) c.if-self.true))
+    c.take.result (c.take.ensures.fault k (records_on k.members above) (same-records k (records_on k.members above) c.args.self.now _ has.has refl refl refl refl))
+
+pub returns-else-self-clause-read : goal.returns-else-self-clause-read
+returns-else-self-clause-read c = λ k above has.
+    taken-read k above c.args.line.now c.args.self.now has c.in-Ok-Some.ensures.fault (value_view c.in-Ok-Some.value) (value_view c.in-Ok-Some.value)
+    (ap (option_map value_view) (sym c.in-Ok-Some.field-0-is) ∙ c.in-Ok-Some.ensures.value) (sym (ap (λ (b : Bool). shown_record b (value_view c.in-Ok-Some.value)) c.if-self.false))
+    c.take-2.result c.take-2.new.self c.take-2.ensures.kept.1 (c.take-2.ensures.kept.0 ∙ c.line_after-self.ensures)
+    (c.take-2.ensures.fault k (records_on k.members above) (same-records k (records_on k.members above) c.args.self.now _ has.has refl refl refl refl))
+    (c.take-2.ensures.read k (records_on k.members above) (same-records k (records_on k.members above) c.args.self.now _ has.has refl refl refl refl))
+
+pub returns-else-self-clause-rows : goal.returns-else-self-clause-rows
+returns-else-self-clause-rows c = λ k above has.
+    taken-rows k above c.args.line.now c.args.self.now has c.in-Ok-Some.ensures.fault (value_view c.in-Ok-Some.value) (value_view c.in-Ok-Some.value)
+    (ap (option_map value_view) (sym c.in-Ok-Some.field-0-is) ∙ c.in-Ok-Some.ensures.value) (sym (ap (λ (b : Bool). shown_record b (value_view c.in-Ok-Some.value)) c.if-self.false))
+    c.take-2.result (map fields_of c.args.rows.now.items) (map fields_of c.take-2.new.rows.items)
+    (c.take-2.ensures.rows k (records_on k.members above) (same-records k (records_on k.members above) c.args.self.now _ has.has refl refl refl refl))
+
+pub returns-else-self-clause-fault : goal.returns-else-self-clause-fault
+returns-else-self-clause-fault c = λ k above has.
+    taken-fault k above c.args.line.now c.args.self.now has c.in-Ok-Some.ensures.fault (value_view c.in-Ok-Some.value) (value_view c.in-Ok-Some.value)
+    (ap (option_map value_view) (sym c.in-Ok-Some.field-0-is) ∙ c.in-Ok-Some.ensures.value) (sym (ap (λ (b : Bool). shown_record b (value_view c.in-Ok-Some.value)) c.if-self.false))
+    c.take-2.result (c.take-2.ensures.fault k (records_on k.members above) (same-records k (records_on k.members above) c.args.self.now _ has.has refl refl refl refl))
 
 pub returns-in-Ok-None-clause-read : goal.returns-in-Ok-None-clause-read
 returns-in-Ok-None-clause-read c = λ k above has.
     let t = c.args.self.now in
     let line = c.args.line.now in
-    let is : None ≡ record_on line = ap (option_map value_view) (sym c.in-Ok-None.field-0-is) ∙ c.in-Ok-None.ensures.value in
+    let blank : None ≡ value_on line = ap (option_map value_view) (sym c.in-Ok-None.field-0-is) ∙ c.in-Ok-None.ensures.value in
+    let is : None ≡ record_on k.members line = ap (option_map (shown_record k.members.is_flat)) blank in
     lines-more k above line t _ has (blank-sound k t.number above line has.number c.in-Ok-None.ensures.fault is) (without-record k above line t _ is has.has refl refl refl refl)
-    c.line_after-self.ensures
+    refl c.line_after-self.ensures
 
 pub returns-in-Ok-None-clause-rows : goal.returns-in-Ok-None-clause-rows
 returns-in-Ok-None-clause-rows c = λ k above has.
     let line = c.args.line.now in
-    let is : None ≡ record_on line = ap (option_map value_view) (sym c.in-Ok-None.field-0-is) ∙ c.in-Ok-None.ensures.value in
+    let blank : None ≡ value_on line = ap (option_map value_view) (sym c.in-Ok-None.field-0-is) ∙ c.in-Ok-None.ensures.value in
+    let is : None ≡ record_on k.members line = ap (option_map (shown_record k.members.is_flat)) blank in
     no-rows k above line (map fields_of c.args.rows.now.items) is
