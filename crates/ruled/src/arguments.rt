@@ -300,7 +300,13 @@ const CHOICES: [Choice; 38] = [
         name: "color",
         value: "WHEN",
         takes: Takes::Color,
-        help: "Print the header in bold; by default (auto) if the output is a terminal, unless NO_COLOR is set or TERM is dumb",
+        help: "Print the header in bold, and texts of --missing and --null dim; by default (auto) if the output is a terminal, unless NO_COLOR is set or TERM is dumb",
+        ..FLAG
+    },
+    Choice {
+        name: "signs",
+        conflicts: &["stream"],
+        help: "Where there is colour, print numbers below zero in red, and those above it in green",
         ..FLAG
     },
     Choice {
@@ -585,14 +591,14 @@ fn is_omitting(found: &ArgMatches, screen: Screen) -> bool {
     is_asked || (screen.is_output && !found.get_flag("no-omit"))
 }
 
-// Whether the header is bold: as is asked for, and else at a terminal that shows colours. Markdown has none.
+// Whether there is colour: as is asked for, and else at a terminal that shows it. Markdown has none.
 fn is_colored(found: &ArgMatches, screen: Screen) -> bool {
-    let is_bold = match found.get_str("color") {
+    let is_shown = match found.get_str("color") {
         Some("always") => true,
         Some("never") => false,
         _ => screen.is_output && screen.allows_color,
     };
-    is_bold && !found.get_flag("markdown")
+    is_shown && !found.get_flag("markdown")
 }
 
 // When rows are shown as blocks.
@@ -635,6 +641,7 @@ fn view_of(
         bounds: bounds_of(alloc, found, screen.columns)?,
         is_omitting: is_omitting(found, screen),
         is_colored: is_colored(found, screen),
+        has_signs: found.get_flag("signs"),
         is_raw: found.get_flag("raw"),
         is_markdown: found.get_flag("markdown"),
     })

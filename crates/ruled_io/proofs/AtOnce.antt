@@ -13,7 +13,7 @@ use Rattle.ruled_table.specs.Appended.{HasAppended}
 use Rattle.ruled_table.specs.Blocks.{blocks_fault, blocks_text, record_block, record_fault, records_fault}
 use Rattle.ruled_table.specs.Faults as tables
 use Rattle.ruled_table.specs.Columns.{column_fault}
-use Rattle.ruled_table.specs.Layouts.{layout_fault, layout_of, start_fault, whole_text}
+use Rattle.ruled_table.specs.Layouts.{colored, layout_fault, layout_of, start_fault, whole_text}
 use Rattle.ruled_table.specs.Arranged.{arranged, chosen_fault, chosen_rows, sort_fault}
 use Rattle.ruled_table.specs.Plans.{Plan, is_always, is_in_blocks, leaves_columns_out}
 use Rattle.ruled_table.specs.RowLines.{begun_text}
@@ -219,10 +219,11 @@ module _ (options : Options) (names : List (List Text)) where
 -- ---- the table of all rows
 
 pub whole-draws : {X : Type 0} (options : Options) (plan : Plan) (rows : List (List Text)) (wrong : Option ViewFault) (old new : Option (List ℕ)) (result : Result X RunFault) → plan ≡ layout_of options rows → wrong ≡ None
-    → DrawsInMemory (whole_text options plan rows) None old new result → Draws (whole_table options rows) wrong old new result
+    → DrawsInMemory (whole_text options (colored options rows plan) rows) None old new result → Draws (whole_table options rows) wrong old new result
 whole-draws options plan rows wrong old new result laid none draws =
-    let text : whole_text options plan rows ≡ whole_table options rows = ap (λ (p : Plan). whole_text options p rows) laid in
-    let so : Draws (whole_text options plan rows) None old new result = draws-so (whole_text options plan rows) None old new result draws in
+    let given : Text = whole_text options (colored options rows plan) rows in
+    let text : given ≡ whole_table options rows = ap (λ (p : Plan). whole_text options (colored options rows p) rows) laid in
+    let so : Draws given None old new result = draws-so given None old new result draws in
     subst (λ (w : Option ViewFault). Draws (whole_table options rows) w old new result) (sym none) (subst (λ (t : Text). Draws t None old new result) text so)
 
 -- where a text ends before its end, so does a longer one

@@ -1,19 +1,26 @@
 -- A run at once, and a stream whose first rows are all rows.
 use Rattle.std.proofs.Common.{◌≡◌, ◌∙◌, ◌∷◌, ◌++◌, ◌≤◌, ℕ, suc, List, [], Bool, true, false, Option, None, Some, length, take, arith, refl, sym, ap, subst}
-use Rattle.std.specs.Prelude.{◌≢◌, ◌==◌, is_some, map, option_map, string_bytes, if◌then◌else◌}
-use Rattle.std.specs.Option.{option_or}
+use Rattle.std.specs.Prelude.{◌≢◌, ◌==◌, ◌&&◌, ◌||◌, not, is_some, map, slice_get, slice_index_or, option_map, string_bytes, if◌then◌else◌}
+use Rattle.std.specs.Option.{option_and_then, option_or}
+use Rattle.std.proofs.Math.Path.{fun_ext}
+use Rattle.std.proofs.lemmas.Bool.{cases_Bool, eqb-true, true≢false}
 use Rattle.std.proofs.lemmas.Bool.Decides.{nat_tests}
-use Rattle.std.proofs.lemmas.List.{append-nil, take_all}
+use Rattle.std.proofs.lemmas.List.{append-nil, nil_from_length, take_all}
+use Rattle.pg_layout.specs.Colors.{Color}
 use Rattle.pg_layout.specs.Text.{Text}
+use Rattle.pg_layout.specs.declared.position.Position.{Position}
 use Rattle.ruled_json.specs.Rows.{Rules}
 use Rattle.ruled_csv.specs.Faults.{rows_fault}
 use Rattle.ruled_csv.proofs.SoundRows.{all-sound}
 use Rattle.ruled_json.specs.Streamed.{LineRules, streamed_line_fault}
 use Rattle.ruled_table.specs.Arranged.{arranged, chosen_rows, ends_of, even, leveled, named, numbered, sort_fault_by, sorted_by_word, tails}
-use Rattle.ruled_table.specs.Columns.{column_fault}
-use Rattle.ruled_table.specs.Layouts.{first_fault, layout_of, start_fault, whole_text}
-use Rattle.ruled_table.specs.Shown.{heads}
+use Rattle.ruled_table.specs.Columns.{column_fault, drawn_at}
+use Rattle.ruled_table.specs.Layouts.{colored, first_fault, layout_of, start_fault, whole_text}
+use Rattle.ruled_table.specs.Plans.{Plan, with_colors}
+use Rattle.ruled_table.specs.Shown.{color_at, color_of, field_tint, heads, tint_of}
 use Rattle.ruled_table.specs.View.{all_fault, all_text, table_fault, table_text, whole_fault, whole_table}
+use Rattle.ruled_table.specs.declared.colors.Tint.{Tint}
+use Rattle.ruled_table.specs.declared.colors.Tint.TheVariants.{Bold}
 use Rattle.ruled_table.specs.declared.options.Options.{Options}
 use Rattle.ruled_table.specs.declared.options.Sort.{Sort}
 use Rattle.ruled_io.specs.Faults.{fault_of_json, fault_of_rows, of_view}
@@ -71,6 +78,11 @@ whole-wrong options (row ∷ rows) =
     ap (λ (none : Bool). if none then None else option_map of_view (first_fault options (row ∷ rows))) (not-none (length rows))
     ∙ ap (option_map of_view) (once (column_fault options.columns.items (row ∷ rows)) _ (start_fault (layout_of options (row ∷ rows))))
 
+neither : (a b : Bool) → (a || not b) ≡ false → (a ≡ false) × (b ≡ true)
+neither true b is = absurd (true≢false is)
+neither false true is = (refl, refl)
+neither false false is = absurd (true≢false is)
+
 none-named : (names : List Text) (rows : List (List Text)) → names ≡ [] → named names rows ≡ rows
 none-named [] rows none = refl
 none-named (name ∷ names) rows none = absurd (cc)
@@ -83,6 +95,27 @@ module _ (options : Options) (each : ShowsEachRow options) where
 
   all-needed : rows_needed options ≡ None
   all-needed = rw (each.padded, each.unsorted, each.head) refl
+
+  -- no field has a colour, whether its row is known or not
+  no-tint : options.is_colored ≡ true → (place : Option ℕ) (row : Option (List Text)) → option_and_then (λ fields. field_tint options place (drawn_at fields place)) row ≡ None
+  no-tint colored place None = refl
+  no-tint colored place (Some fields) =
+      let parts = neither options.has_signs (length options.missing.items == 0) (rw colored at each.untinted) in
+      let empty : options.missing.items ≡ [] = nil_from_length options.missing.items (eqb-true _ 0 parts.1) in
+      rw (empty, parts.0) refl
+
+  same-tint : (is_name : Bool) (place : Option ℕ) (row other : Option (List Text)) → tint_of options is_name place row ≡ tint_of options is_name place other
+  same-tint is_name place row other = elim (cases_Bool options.is_colored) [
+    | inl colored ↦ ap (λ (tint : Option Tint). if not options.is_colored then None else if is_name then Some Bold else tint) (no-tint colored place row ∙ sym (no-tint colored place other))
+    | inr plain ↦ rw plain refl
+  ]
+
+  same-colors : (rows : List (List Text)) (plan : Plan) → colored options [] plan ≡ colored options rows plan
+  same-colors rows plan =
+      let same : color_at options plan.places [] ≡ color_at options plan.places rows =
+      fun_ext (λ p. ap (option_map color_of) (same-tint (options.has_header && (p.row == 0)) (slice_index_or plan.places p.col None) (slice_get [] p.row) (slice_get rows p.row)))
+      in
+      ap (λ (color : Position → Option Color). with_colors color plan) same
 
   module _ (count : ℕ) (rows : List (List Text)) (few : length rows ≤ count) where
     all-first : take count rows ≡ rows
@@ -110,7 +143,8 @@ module _ (options : Options) (each : ShowsEachRow options) where
         ∙ rw (each.head, each.tail, each.ends, each.vertical) refl
         in
         ap (λ (wrong : Option RunFault). if is_some wrong then [] else whole_text options (first_plan options count rows None) rows) none
-        ∙ ap (λ (first : List (List Text)). whole_text options (layout_of options first) rows) all-first ∙ sym whole
+        ∙ ap (λ (first : List (List Text)). whole_text options (colored options [] (layout_of options first)) rows) all-first
+        ∙ ap (λ (plan : Plan). whole_text options plan rows) (same-colors rows (layout_of options rows)) ∙ sym whole
 
 -- ---- an input
 

@@ -9,7 +9,7 @@ use Rattle.std.proofs.lemmas.List.{nil_from_length, take-append-le}
 use Rattle.pg_layout.specs.Text.{Text}
 use Rattle.ruled_json.specs.Streamed.{LineRules}
 use Rattle.ruled_table.specs.Faults.{is_memory as is_lost}
-use Rattle.ruled_table.specs.Layouts.{first_fault, layout_of}
+use Rattle.ruled_table.specs.Layouts.{colored, first_fault, layout_of}
 use Rattle.ruled_table.specs.Plans.{Plan}
 use Rattle.ruled_table.specs.RowLines.{begun_text}
 use Rattle.ruled_table.specs.View.{excess_of}
@@ -19,7 +19,7 @@ use Rattle.ruled_table.specs.declared.options.Options.{Options}
 use Rattle.ruled_io.specs.Faults.{but_line, but_line_in, is_failure, of_view}
 use Rattle.ruled_io.specs.Reading.{Stands, sound_rows, wrong_in}
 use Rattle.ruled_io.specs.Steps.{EndsBelow, Grows, IsEnough, Nears, wrong_within}
-use Rattle.ruled_io.specs.Stream.{Ends, first_remarks, first_wrong, lines_in, first_plan, shown_text}
+use Rattle.ruled_io.specs.Stream.{Ends, first_layout, first_remarks, first_wrong, lines_in, first_plan, shown_text}
 use Rattle.ruled_io.specs.Output.{Begins}
 use Rattle.ruled_io.specs.declared.fault.InputFault.{InputFault}
 use Rattle.ruled_io.specs.declared.fault.RunFault.{RunFault}
@@ -114,7 +114,7 @@ module _ (options : Options) (count : ℕ) (rows : List (List Text)) (wrong : Op
   pub none-ends : (old : Option (List ℕ)) → (length rows ≡ 0) × (wrong ≡ None) → Ends options count rows wrong old old (Ok (record { padded = 0; wide = None; inner = None }))
   none-ends old (none, fine) =
       let empty : rows ≡ [] = no-items rows none in
-      let text : shown_text options count rows wrong ≡ [] = rw (empty, fine) (whole-none options (layout_of options (take count []))) in
+      let text : shown_text options count rows wrong ≡ [] = rw (empty, fine) (whole-none options (colored options [] (layout_of options (take count [])))) in
       (rw (empty, fine) refl, fine, subst (Appends old old) (sym text) (Appends-nil old), rw none refl)
 
   -- their table is judged
@@ -159,11 +159,11 @@ module _ (options : Options) (count : ℕ) (rows : List (List Text)) (wrong : Op
         ],
       )
 
-  pub table-ends : {X : Type 0} (plan : Plan) (old new : Option (List ℕ)) (answer : Result X RunFault) (wide : Option ℕ) (result : Result Remarks RunFault) → plan ≡ first_plan options count rows wrong → first_wrong options count rows wrong ≡ None
-      → (length rows == 0) ≡ false → EndsBelow options plan rows wrong [] old new answer → wide ≡ excess_of options.bounds.width plan → result ≡ result_and answer (Ok (with-wide wide)) → Ends options count rows wrong old new result
+  pub table-ends : {X : Type 0} (plan : Plan) (old new : Option (List ℕ)) (answer : Result X RunFault) (wide : Option ℕ) (result : Result Remarks RunFault) → plan ≡ first_layout options count rows wrong → first_wrong options count rows wrong ≡ None
+      → (length rows == 0) ≡ false → EndsBelow options (colored options [] plan) rows wrong [] old new answer → wide ≡ excess_of options.bounds.width plan → result ≡ result_and answer (Ok (with-wide wide)) → Ends options count rows wrong old new result
   table-ends plan old new answer wide result is fine some ends told so =
       let remarked : with-wide wide ≡ first_remarks options count rows wrong = rw some (ap with-wide (told ∙ ap (excess_of options.bounds.width) is)) in
-      subst (Ends options count rows wrong old new) (sym so) (shown-ends old new answer (with-wide wide) fine (subst (λ (p : Plan). EndsBelow options p rows wrong [] old new answer) is ends) remarked)
+      subst (Ends options count rows wrong old new) (sym so) (shown-ends old new answer (with-wide wide) fine (subst (λ (p : Plan). EndsBelow options (colored options [] p) rows wrong [] old new answer) is ends) remarked)
 
   -- and shown
   pub ends-kept : (old mid new : Option (List ℕ)) (answer result : Result Remarks RunFault) → Ends options count rows wrong old mid answer → Keeps mid new → OnOk result (answer ≡ result)

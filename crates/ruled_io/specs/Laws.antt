@@ -1,6 +1,7 @@
 -- A law of runs: where all rows are among the first ones, a stream shows what is shown at once.
 use Rattle.std.specs.Prelude.{◌≡◌, ◌≢◌, ◌≤◌, ℕ, false, List, [], length, None, option_map}
 use Rattle.pg_layout.specs.Text.{Text}
+use Rattle.ruled_table.specs.Shown.{colors_fields}
 use Rattle.ruled_table.specs.View.{table_fault}
 use Rattle.ruled_table.specs.declared.options.Options.{Options}
 use Rattle.ruled_table.specs.declared.options.Vertical.TheVariants.{Never}
@@ -27,6 +28,7 @@ pub record ShowsEachRow (options : Options) : Type 0 where
   pub ends : options.ends ≡ None
   pub uncounted : options.is_counting ≡ false
   pub vertical : options.vertical ≡ Never
+  pub untinted : colors_fields options ≡ false
 
 module _ (request : Request) (count : ℕ) (bytes : List ℕ) where
   pub record AllAreFirst : Type 0 where

@@ -5,7 +5,7 @@ use Rattle.std.specs.Io.KnownBytes.{Appends}
 use Rattle.pg_layout.specs.Text.{Text}
 use Rattle.ruled_json.specs.Rows.{Rules}
 use Rattle.ruled_json.specs.Streamed.{LineRules}
-use Rattle.ruled_table.specs.Layouts.{first_fault, layout_of, whole_text}
+use Rattle.ruled_table.specs.Layouts.{colored, first_fault, layout_of, whole_text}
 use Rattle.ruled_table.specs.Plans.{Plan}
 use Rattle.ruled_table.specs.RowLines.{HasNoRoom, begun_text}
 use Rattle.ruled_table.specs.View.{excess_of}
@@ -54,9 +54,12 @@ lines_in options plan rows wrong = if is_some wrong then begun_text options plan
 -- ---- what becomes of rows, of which so many are first, where something is wrong behind them or nothing
 
 module _ (options : Options) (count : ℕ) (rows : List (List Text)) (wrong : Option InputFault) where
-  -- the layout that the first ones say
+  -- the layout that the first ones say, and with colours; no row below a header has any
+  abbrev pub first_layout : Plan
+  first_layout = layout_of options (take count rows)
+
   abbrev pub first_plan : Plan
-  first_plan = layout_of options (take count rows)
+  first_plan = colored options [] first_layout
 
   -- what is told before anything is written: that they end at a bad one, or what is wrong with their table
   abbrev pub first_wrong : Option RunFault
@@ -70,7 +73,7 @@ module _ (options : Options) (count : ℕ) (rows : List (List Text)) (wrong : Op
 
   -- what is remarked: no row is padded, and how wide the lines are, if that is more than the width that is set
   abbrev pub first_remarks : Remarks
-  first_remarks = record { padded = 0; wide = if length rows == 0 then None else excess_of options.bounds.width first_plan; inner = None }
+  first_remarks = record { padded = 0; wide = if length rows == 0 then None else excess_of options.bounds.width first_layout; inner = None }
 
   module _ (old new : Option (List ℕ)) where
     -- the lines above a row that no room is left for

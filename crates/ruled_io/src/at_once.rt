@@ -28,7 +28,7 @@ use crate::pieces::Pieces;
 use crate::program::Remarks;
 use crate::request::Request;
 use csv::StringRecord;
-use ruled_table::{Blocks, Layout, Options, TableRows, chosen_rows, padded_rows};
+use ruled_table::{Blocks, Layout, Options, TableRows, TextColors, chosen_rows, padded_rows};
 use std::alloc::Global;
 use std::io::{Read, Write};
 
@@ -111,7 +111,8 @@ fn show_table<W: Write + Drop>(
         → Draws (whole_table options.now (map fields_of rows.now)) (start_fault (layout_of options.now (map fields_of rows.now))) (W.contents out.old.writer) (W.contents out.new.writer) result }
     ensures told { TellsWrite (failure_of out.old) (failure_of out.new) result }
 {
-    let table = TableRows::new(alloc, options, layout)?;
+    let colors = TextColors::new(options, layout, rows);
+    let table = TableRows::new(alloc, options, layout, &colors)?;
     write_whole(alloc, table, rows, out)
 }
 

@@ -27,7 +27,7 @@ use crate::reader::Reading;
 use crate::request::Request;
 use csv::StringRecord;
 use ruled_json::MemberRules;
-use ruled_table::{Layout, Options, TableRows};
+use ruled_table::{Layout, Options, TableRows, TextColors};
 use std::alloc::Global;
 use std::io::{Read, Write};
 
@@ -123,7 +123,8 @@ fn show_table<R: Read + Drop, W: Write + Drop>(
         return Ok(Remarks::NONE);
     }
     let layout = Layout::of_rows(alloc, options, count, &mut rows)?;
-    let table = TableRows::new(alloc, options, &layout)?;
+    let colors = TextColors::new(options, &layout, &[]);
+    let table = TableRows::new(alloc, options, &layout, &colors)?;
     let wide = layout.excess(options.bounds.width);
     let answer = write_table(alloc, table, reading, rows, pieces, out);
     let remarks = Remarks {

@@ -4,16 +4,18 @@ use Rattle.std.proofs.lemmas.List.{length-map, drop-map, drop_more, map-append, 
 use Rattle.std.proofs.lemmas.List.Elements.{All-map}
 use Rattle.std.proofs.Math.Utf8.{encode}
 use Rattle.std.proofs.lemmas.Str.{chars-encodes, chars-nil, encodes-chars}
-use Rattle.std.specs.Prelude.{if◌then◌else◌}
+use Rattle.std.specs.Prelude.{if◌then◌else◌, option_map, slice_get}
 use Rattle.csv.specs.Records.{Row, fields_of, field_at}
 use Rattle.pg_layout.specs.Records.{columns_of}
+use Rattle.pg_layout.specs.Colors.{Color}
 use Rattle.pg_layout.specs.Text.{Text}
+use Rattle.pg_layout.specs.declared.position.Position.{Position}
 use Rattle.pg_config.specs.Config.{Config}
 use Rattle.pg_fit.specs.Controls.{sign_of, visible_text}
 use Rattle.ruled_table.specs.Blocks.{block_fault, block_of, names_in, places_in, record_block, record_fault, HasNames}
 use Rattle.ruled_table.specs.Columns.{drawn_at, ellipsis}
 use Rattle.ruled_table.specs.Omitted.{abridged}
-use Rattle.ruled_table.specs.Shown.{escape_of, escaped_text, is_plain, seen_text, shown_row, shown_text, look_config}
+use Rattle.ruled_table.specs.Shown.{color_beside, color_of, tint_of, escape_of, escaped_text, is_plain, seen_text, shown_row, shown_text, look_config}
 use Rattle.ruled_table.specs.LentRows.{fields_at, texts_at, pairs_of}
 use Rattle.ruled_table.specs.declared.options.Options.{Options}
 use Rattle.ruled_table.specs.declared.blocks.Blocks.{Blocks}
@@ -139,7 +141,8 @@ rows-shown options places (row ∷ rows) =
 
 -- ---- the blocks of records whose fields have names
 
-module _ (options : Options) (rows : List (List Text)) (blocks : Blocks) (has : HasNames options rows blocks) (places : List (Option ℕ)) (at : places ≡ blocks.places.items) (fields row : List Text) (shown : fields ≡ map (shown_text options) row) where
+module _ (options : Options) (rows : List (List Text)) (blocks : Blocks) (has : HasNames options rows blocks) (places : List (Option ℕ)) (at : places ≡ blocks.places.items) (fields row : List Text) (shown : fields ≡ map (shown_text options) row)
+    (color : Position → Option Color) (hue : color ≡ color_beside options (places_in options rows) row) where
   names-same : fields_at places (fields_of blocks.names) ≡ names_in options rows
   names-same =
       ap (fields_at places) has.named
@@ -149,17 +152,22 @@ module _ (options : Options) (rows : List (List Text)) (blocks : Blocks) (has : 
   texts-same : fields_at places fields ≡ shown_row options (places_in options rows) row
   texts-same = ap (fields_at places) shown ∙ row-shown options row places ∙ ap (λ (ps : List (Option ℕ)). shown_row options ps row) (at ∙ has.at)
 
-  pub block-same : block_of blocks.options.now.bounds blocks.config (fields_at places (fields_of blocks.names)) (fields_at places fields) ≡ record_block options rows row
+  pub block-same : block_of blocks.options.now.bounds blocks.config color (fields_at places (fields_of blocks.names)) (fields_at places fields) ≡ record_block options rows row
   block-same =
-      ap (λ (o : Options). block_of o.bounds blocks.config (fields_at places (fields_of blocks.names)) (fields_at places fields)) has.asked
-      ∙ ap (λ (c : Config). block_of options.bounds c (fields_at places (fields_of blocks.names)) (fields_at places fields)) has.looks
-      ∙ ap₂ (block_of options.bounds (look_config options.look)) names-same texts-same
+      ap (λ (o : Options). block_of o.bounds blocks.config color (fields_at places (fields_of blocks.names)) (fields_at places fields)) has.asked
+      ∙ ap₂ (λ (c : Config) (k : Position → Option Color). block_of options.bounds c k (fields_at places (fields_of blocks.names)) (fields_at places fields)) has.looks hue
+      ∙ ap₂ (block_of options.bounds (look_config options.look) (color_beside options (places_in options rows) row)) names-same texts-same
 
-  pub fault-same : block_fault blocks.options.now.bounds blocks.config (fields_at places (fields_of blocks.names)) (fields_at places fields) ≡ record_fault options rows row
+  pub fault-same : block_fault blocks.options.now.bounds blocks.config color (fields_at places (fields_of blocks.names)) (fields_at places fields) ≡ record_fault options rows row
   fault-same =
-      ap (λ (o : Options). block_fault o.bounds blocks.config (fields_at places (fields_of blocks.names)) (fields_at places fields)) has.asked
-      ∙ ap (λ (c : Config). block_fault options.bounds c (fields_at places (fields_of blocks.names)) (fields_at places fields)) has.looks
-      ∙ ap₂ (block_fault options.bounds (look_config options.look)) names-same texts-same
+      ap (λ (o : Options). block_fault o.bounds blocks.config color (fields_at places (fields_of blocks.names)) (fields_at places fields)) has.asked
+      ∙ ap₂ (λ (c : Config) (k : Position → Option Color). block_fault options.bounds c k (fields_at places (fields_of blocks.names)) (fields_at places fields)) has.looks hue
+      ∙ ap₂ (block_fault options.bounds (look_config options.look) (color_beside options (places_in options rows) row)) names-same texts-same
+
+-- the colours of a record's block, as a value has them
+pub block-colors : (asked options : Options) (own places : List (Option ℕ)) (records : List Row) (fields : Row) → asked ≡ options → own ≡ places → records ≡ fields ∷ []
+    → (λ (p : Position). option_map color_of (tint_of asked (p.col == 0) (slice_index_or own p.row None) (slice_get (map fields_of records) 0))) ≡ color_beside options places (fields_of fields)
+block-colors asked options own places records fields same at is = rw (same, at, is) refl
 
 -- ---- texts of which some are left out
 

@@ -4,7 +4,6 @@ use Rattle.std.specs.Prelude.{nat_lt}
 use Rattle.std.proofs.lemmas.Bool.Decides.{nat_tests}
 use Rattle.std.proofs.Math.Seq.{get_or-append_seam}
 use Rattle.std.proofs.lemmas.List.{map-append, take_more, at_drop_more, length-map, length_push, nil_from_length, take-map}
-use Rattle.pg_layout.specs.Colors.{Color}
 use Rattle.pg_layout.specs.Text.{Text}
 use Rattle.pg_config.specs.Spans.{has_row_spans}
 use Rattle.pg_fit.specs.Rows.{row_height}
@@ -18,9 +17,9 @@ use Rattle.pg_stream.proofs.SizedRows.{after_row-by, count-lines, row_text-by}
 use Rattle.ruled_table.specs.Layouts.{cells_of, heights_of, start_of, cells_within, but_last, layout_by, layout_of, measured_in, places_in, plan_by, plan_fault, ruler_of, sizes_fault_by}
 use Rattle.ruled_table.specs.Columns.{ellipsis}
 use Rattle.ruled_table.specs.Omitted.{abridged, note_of, shown_columns}
-use Rattle.ruled_table.specs.Plans.{Plan, color_at, plan_of}
+use Rattle.ruled_table.specs.Plans.{Plan, plan_of}
 use Rattle.ruled_table.specs.RowLines.{AreHeights, HasPrinted, after_rows, begun_of, begun_text, ended_by, lines_of, next_lines, GrowsTo, TellsRoom}
-use Rattle.ruled_table.specs.Shown.{header_color, shown_row, shown_text}
+use Rattle.ruled_table.specs.Shown.{shown_row, shown_text}
 use Rattle.ruled_table.specs.Widths.{row_within, room_of, text_within, texts_within, first_config, widths_of}
 use Rattle.ruled_table.specs.declared.options.Options.{Options}
 use Rattle.csv.specs.Records.{Row, fields_of}
@@ -100,7 +99,7 @@ heights-all s rows are none = heights-from s [] rows are none
 
 module _ (plan : Plan) (heights : ℕ → ℕ) where
   pub start-counts : CountsLines (start_of plan heights)
-  start-counts = count-lines.none plan.config (length plan.places) plan.width heights (λ place. color_at plan.header_color place) None
+  start-counts = count-lines.none plan.config (length plan.places) plan.width heights plan.color None
 
   pub start-rows : (start_of plan heights).rows ≡ 0
   unfolding printer
@@ -391,12 +390,12 @@ pub but-last-map : {X Y : Type 0} (f : X → Y) (xs : List X) → map f (but_las
 but-last-map f xs = sym (take-map f (length xs - 1) xs) ∙ ap (λ (n : ℕ). take (n - 1) (map f xs)) (sym (length-map xs f))
 
 -- the plan that is made of its parts
-pub plan-made : (options : Options) (places : List (Option ℕ)) (note below : Text) (measured rows : List (List Text)) (config : Config) (width : ℕ → ℕ) (color : Option Color) → rows ≡ but_last measured → config ≡ first_config options rows
-    → width ≡ widths_of options config measured → below ≡ note → color ≡ header_color options → plan_of places config width below color ≡ plan_by options places note measured
-plan-made options places note below measured rows config width color above looks wide same bold =
+pub plan-made : (options : Options) (places : List (Option ℕ)) (note below : Text) (measured rows : List (List Text)) (config : Config) (width : ℕ → ℕ) → rows ≡ but_last measured → config ≡ first_config options rows
+    → width ≡ widths_of options config measured → below ≡ note → plan_of places config width below ≡ plan_by options places note measured
+plan-made options places note below measured rows config width above looks wide same =
     let config-is : config ≡ first_config options (but_last measured) = looks ∙ ap (first_config options) above in
-    ap₂ (plan_of places config width) same bold
-    ∙ ap₂ (λ (c : Config) (w : ℕ → ℕ). plan_of places c w note (header_color options)) config-is (wide ∙ ap (λ (c : Config). widths_of options c measured) config-is)
+    ap (plan_of places config width) same
+    ∙ ap₂ (λ (c : Config) (w : ℕ → ℕ). plan_of places c w note) config-is (wide ∙ ap (λ (c : Config). widths_of options c measured) config-is)
 
 module _ (options : Options) (rows : List (List Text)) (places : List (Option ℕ)) (measured : List Row) (at : places ≡ places_in options rows)
     (are : map fields_of measured ≡ map (map (shown_text options)) rows ++ ruler_of (slice_index_or (map (map (shown_text options)) rows) 0 []) ∷ []) where

@@ -43,7 +43,7 @@ use Rattle.pg_stream.specs.SizedStreams.{sized_misfit}
 use Rattle.pg_stream.specs.declared.fault.StreamFault.{StreamFault}
 use Rattle.pg_stream.specs.declared.fault.StreamFault.TheVariants as stream
 use Rattle.ruled_table.specs.Layouts.{start_fault, start_of}
-use Rattle.ruled_table.specs.Plans.{Plan}
+use Rattle.ruled_table.specs.Plans.{Plan, with_colors}
 use Rattle.ruled_table.specs.RowLines.{HasPrinted, after_rows}
 use Rattle.ruled_table.specs.Look.{first_named, name_of}
 use Rattle.ruled_table.specs.declared.look.Look.{Look}
@@ -51,17 +51,17 @@ use Rattle.ruled_table.specs.declared.look.Look.TheVariants.{Sharp, Rounded, Mod
 
 -- ---- the text of a table of rows, by whether there are any
 
-module _ (bounds : Bounds) (config : Config) (rows : List (List Text)) where
-  pub text_none : (length rows == 0) ≡ true → [] ≡ text_with bounds config rows
+module _ (bounds : Bounds) (config : Config) (color : Position → Option Color) (rows : List (List Text)) where
+  pub text_none : (length rows == 0) ≡ true → [] ≡ text_with bounds config color rows
   text_none e = rw e refl
 
-  pub fault_none : (length rows == 0) ≡ true → fault_with bounds config rows ≡ None
+  pub fault_none : (length rows == 0) ≡ true → fault_with bounds config color rows ≡ None
   fault_none e = rw e refl
 
-  pub text_drawn : (length rows == 0) ≡ false → picture Known (bounded_table bounds config rows) ++ 10 ∷ [] ≡ text_with bounds config rows
+  pub text_drawn : (length rows == 0) ≡ false → picture Known (bounded_table bounds config color rows) ++ 10 ∷ [] ≡ text_with bounds config color rows
   text_drawn e = rw e refl
 
-  pub fault_drawn : (length rows == 0) ≡ false → (if is_none (bounded_fault bounds config rows) then None else Some Totals) ≡ fault_with bounds config rows
+  pub fault_drawn : (length rows == 0) ≡ false → (if is_none (bounded_fault bounds config color rows) then None else Some Totals) ≡ fault_with bounds config color rows
   fault_drawn e = rw e refl
 
 -- ---- what is wrong with a table that is printed, and what a call that fails has appended
@@ -227,6 +227,11 @@ no-columns plan heights none = elim (cases_Bool (has_row_spans plan.config.spans
   | inl spans ↦ (Spans, rw spans refl)
   | inr plain ↦ (Many, rw (plain, none) refl)
 ]
+
+-- no colours matter
+pub start-colored : (plan : Plan) (color : Position → Option Color) → start_fault (with_colors color plan) ≡ start_fault plan
+unfolding sized_misfit printer_misfit printer full_width total_width
+start-colored plan color = refl
 
 -- no heights matter
 misfit-by : (plan : Plan) (heights others : ℕ → ℕ) → sized_misfit (start_of plan heights) ≡ sized_misfit (start_of plan others)

@@ -1,8 +1,8 @@
 -- Rows whose lines are appended.
-use Rattle.std.specs.Prelude.{◌≡◌, true, List, ◌<◌, nat_lt, [], length, All}
+use Rattle.std.specs.Prelude.{◌≡◌, true, List, None, ◌<◌, nat_lt, [], length, All}
 use Rattle.pg_layout.specs.Text.{Text}
 use Rattle.ruled_table.specs.Layouts.{cells_of}
-use Rattle.ruled_table.specs.Plans.{Plan, plan_in}
+use Rattle.ruled_table.specs.Plans.{Plan, plan_in, with_colors}
 use Rattle.ruled_table.specs.declared.options.Options.{Options}
 use Rattle.ruled_table.specs.declared.table_rows.TableRows.{TableRows}
 use Rattle.ruled_table.specs.RowLines.{HasPrinted, state_of}
@@ -25,7 +25,7 @@ AreEven plan cells = All (λ row. length row ≡ length plan.places) cells
 -- these rows are, by these options and this plan
 pub record HasAppended (options : Options) (plan : Plan) (rows : List (List Text)) (table : TableRows) : Type 0 where
   pub asked : table.options.now ≡ options
-  pub laid : plan_in table.layout.now ≡ plan
+  pub laid : plan_in table.layout.now ≡ with_colors (λ place. None) plan
   pub drawn : HasDrawn plan (cells_of options plan rows) table.rows
 
 -- a call has failed

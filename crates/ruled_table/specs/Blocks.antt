@@ -2,11 +2,13 @@
 use Rattle.std.specs.Prelude.{ℕ, List, [], ◌∷◌, ◌++◌, drop, slice_index_or, Option, None, ◌≡◌, map}
 use Rattle.std.specs.List.{flat_map}
 use Rattle.std.specs.Option.{option_or}
+use Rattle.pg_layout.specs.Colors.{Color}
 use Rattle.pg_layout.specs.Text.{Text}
+use Rattle.pg_layout.specs.declared.position.Position.{Position}
 use Rattle.pg_config.specs.Config.{Config}
 use Rattle.ruled_table.specs.Columns.{places_of}
 use Rattle.ruled_table.specs.LentRows.{pairs_of}
-use Rattle.ruled_table.specs.Shown.{look_config, shown_row, shown_text}
+use Rattle.ruled_table.specs.Shown.{color_beside, look_config, shown_row, shown_text}
 use Rattle.ruled_table.specs.Tables.{fault_with, text_with}
 use Rattle.ruled_table.specs.declared.bounds.Bounds.{Bounds}
 use Rattle.ruled_table.specs.declared.fault.ViewFault.{ViewFault}
@@ -15,12 +17,12 @@ use Rattle.csv.specs.Records.{fields_of}
 use Rattle.ruled_table.specs.declared.blocks.Blocks.{Blocks}
 
 -- the block of a record with these names, and an empty line
-abbrev pub block_of : Bounds → Config → List Text → List Text → Text
-block_of bounds config names texts = text_with bounds config (pairs_of names texts) ++ 10 ∷ []
+abbrev pub block_of : Bounds → Config → (Position → Option Color) → List Text → List Text → Text
+block_of bounds config color names texts = text_with bounds config color (pairs_of names texts) ++ 10 ∷ []
 
 -- what is wrong with its sizes
-abbrev pub block_fault : Bounds → Config → List Text → List Text → Option ViewFault
-block_fault bounds config names texts = fault_with bounds config (pairs_of names texts)
+abbrev pub block_fault : Bounds → Config → (Position → Option Color) → List Text → List Text → Option ViewFault
+block_fault bounds config color names texts = fault_with bounds config color (pairs_of names texts)
 
 -- of rows, of which the first has the names
 module _ (options : Options) (rows : List (List Text)) where
@@ -32,10 +34,10 @@ module _ (options : Options) (rows : List (List Text)) where
 
   -- the block of a record, and what is wrong with its sizes
   abbrev pub record_block : List Text → Text
-  record_block row = block_of options.bounds (look_config options.look) names_in (shown_row options places_in row)
+  record_block row = block_of options.bounds (look_config options.look) (color_beside options places_in row) names_in (shown_row options places_in row)
 
   abbrev pub record_fault : List Text → Option ViewFault
-  record_fault row = block_fault options.bounds (look_config options.look) names_in (shown_row options places_in row)
+  record_fault row = block_fault options.bounds (look_config options.look) (color_beside options places_in row) names_in (shown_row options places_in row)
 
   -- what is wrong with the first record of which something is
   abbrev pub records_fault : List (List Text) → Option ViewFault

@@ -2,8 +2,10 @@
 use Rattle.std.specs.Prelude.{ℕ, ◌+◌, ◌-◌, ◌^◌, ◌==◌, ◌||◌, not, Bool, List, map, length, Option, Some, None, is_some, unwrap_or, if◌then◌else◌}
 use Rattle.std.specs.List.{range_with_len}
 use Rattle.std.specs.Option.{option_or}
+use Rattle.pg_layout.specs.Colors.{Color}
 use Rattle.pg_layout.specs.Records.{columns_of}
 use Rattle.pg_layout.specs.Text.{Text}
+use Rattle.pg_layout.specs.declared.position.Position.{Position}
 use Rattle.pg_config.specs.Config.{Config}
 use Rattle.pg_picture.specs.Table.{Table}
 use Rattle.pg_table.specs.Fitted.{fit_fault, fitted_table}
@@ -34,14 +36,15 @@ limits_of limits columns = map (λ column. limit_of (told_of limits column)) (ra
 
 -- ---- tables
 
--- the table of these texts, fitted to the bounds
-abbrev pub fitted_within : Bounds → Config → List (List Text) → Table
-fitted_within bounds config texts = fitted_table bounds.overflow (width_of bounds.width) (limits_of bounds.limits.items (columns_of texts)) config texts (columns_of texts) (λ place. None)
+module _ (bounds : Bounds) (config : Config) (color : Position → Option Color) (texts : List (List Text)) where
+  -- the table of these texts, fitted to the bounds
+  abbrev pub fitted_within : Table
+  fitted_within = fitted_table bounds.overflow (width_of bounds.width) (limits_of bounds.limits.items (columns_of texts)) config texts (columns_of texts) color
 
--- where some are told, and else at its natural sizes
-abbrev pub bounded_table : Bounds → Config → List (List Text) → Table
-bounded_table bounds config texts = if are_told bounds then fitted_within bounds config texts else natural_table config texts (columns_of texts) (λ place. None)
+  -- where some are told, and else at its natural sizes
+  abbrev pub bounded_table : Table
+  bounded_table = if are_told bounds then fitted_within else natural_table config texts (columns_of texts) color
 
--- why it isn't drawn
-abbrev pub bounded_fault : Bounds → Config → List (List Text) → Option TableFault
-bounded_fault bounds config texts = option_or (if are_told bounds then fit_fault config texts (columns_of texts) else None) (fault_of (bounded_table bounds config texts))
+  -- why it isn't drawn
+  abbrev pub bounded_fault : Option TableFault
+  bounded_fault = option_or (if are_told bounds then fit_fault config texts (columns_of texts) else None) (fault_of bounded_table)

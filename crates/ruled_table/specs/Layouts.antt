@@ -14,8 +14,8 @@ use Rattle.ruled_table.specs.Columns.{column_fault, ellipsis, places_of}
 use Rattle.ruled_table.specs.Faults.{totals_of}
 use Rattle.ruled_table.specs.LentRows.{fields_at}
 use Rattle.ruled_table.specs.Omitted.{abridged, note_of, shown_columns}
-use Rattle.ruled_table.specs.Plans.{Plan, color_at, plan_of}
-use Rattle.ruled_table.specs.Shown.{header_color, shown_row}
+use Rattle.ruled_table.specs.Plans.{Plan, plan_of, with_colors}
+use Rattle.ruled_table.specs.Shown.{color_at, shown_row}
 use Rattle.ruled_table.specs.Widths.{first_config, row_within, widths_fault, widths_of}
 use Rattle.ruled_table.specs.declared.fault.ViewFault.{ViewFault}
 use Rattle.ruled_table.specs.declared.fault.ViewFault.TheVariants.{Totals}
@@ -37,7 +37,7 @@ module _ (options : Options) (places : List (Option ℕ)) (note : Text) (measure
   config_by = first_config options (but_last measured)
 
   abbrev pub plan_by : Plan
-  plan_by = plan_of places config_by (widths_of options config_by measured) note (header_color options)
+  plan_by = plan_of places config_by (widths_of options config_by measured) note
 
 -- their sizes are too large
 abbrev pub plan_fault : Options → List (List Text) → Option ViewFault
@@ -78,6 +78,10 @@ module _ (options : Options) (first : List (List Text)) where
 
 -- ---- the table of rows
 
+-- a plan with the colours of the texts of these rows; those of other rows have none, but for a header
+abbrev pub colored : Options → List (List Text) → Plan → Plan
+colored options rows plan = with_colors (color_at options plan.places rows) plan
+
 -- the cells of rows: their texts within their columns
 abbrev pub cells_within : Overflow → Plan → List (List Text) → List (List Text)
 cells_within overflow plan texts = map (row_within overflow plan.width) texts
@@ -95,7 +99,7 @@ table_of plan cells = record {
   width = plan.width;
   height = heights_of cells;
   text = text_at cells;
-  color = λ place. color_at plan.header_color place;
+  color = plan.color;
 }
 
 -- its picture, a line feed, and the line below it; of no rows nothing
@@ -118,7 +122,7 @@ module _ (options : Options) (plan : Plan) (rows : List (List Text)) where
 
 -- before its first row, by these heights
 abbrev pub start_of : Plan → (ℕ → ℕ) → Printing
-start_of plan heights = printer plan.config (length plan.places) plan.width heights (λ place. color_at plan.header_color place) None
+start_of plan heights = printer plan.config (length plan.places) plan.width heights plan.color None
 
 -- there is no column, or the width of all together is too large
 abbrev pub start_fault : Plan → Option ViewFault

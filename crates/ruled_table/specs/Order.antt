@@ -1,6 +1,6 @@
 -- The order of rows.
 use Rattle.std.specs.Prelude.{Option, Some, None, ◌^◌, ℕ, ◌+◌, ◌-◌, ◌*◌, ◌==◌, ◌&&◌, ◌||◌, not, min, Bool, true, false, List, [], ◌∷◌, ◌++◌, drop, take, length, map, fold, nat_eq, slice_index_or, ℤ, pos, negsuc, neg_ℤ, ◌+ℤ◌, ◌-ℤ◌, if◌then◌else◌}
-use Rattle.std.specs.List.{ends_with, filter, position, prefix_len, starts_with, suffix_len}
+use Rattle.std.specs.List.{ends_with, filter, list_any, position, prefix_len, starts_with, suffix_len}
 use Rattle.std.specs.Cmp.Lexicographic.{slice_cmp}
 use Rattle.std.specs.Io.BufRead.{strip_last}
 use Rattle.std.specs.Ordering.{bool_cmp, int_cmp, is_lt, nat_cmp, ordering_then}
@@ -49,6 +49,10 @@ behind_mark (Some mark) number = drop (mark + 1) number
 
 abbrev pub mantissa : Text → Text
 mantissa text = before_mark (position is_mark (bare text)) (bare text)
+
+-- it has a digit there that isn't 0
+abbrev pub has_value : Text → Bool
+has_value text = list_any (λ byte. is_digit byte && not (byte == 48)) (mantissa text)
 
 -- the number that digits write, or 2 ^ 64 - 1, if that is less
 abbrev pub size_of : Text → ℕ

@@ -1,5 +1,5 @@
 -- What is known of a table before its rows.
-use Rattle.std.specs.Prelude.{ℕ, ◌==◌, Bool, true, false, List, Option, None, is_none, slice_index_or, if◌then◌else◌}
+use Rattle.std.specs.Prelude.{ℕ, Bool, true, false, List, Option, None, is_none, slice_index_or}
 use Rattle.std.specs.List.{list_any}
 use Rattle.pg_layout.specs.Colors.{Color}
 use Rattle.pg_layout.specs.Text.{Text}
@@ -9,20 +9,20 @@ use Rattle.ruled_table.specs.declared.options.Vertical.{Vertical}
 use Rattle.ruled_table.specs.declared.options.Vertical.TheVariants.{Always, IfOmitting, Never}
 
 -- the columns by their places in a row, what the table looks like, how wide its columns are, the line below it, and the
--- colour of the texts of its header, if they have one
+-- colours of its texts
 pub record Plan : Type 0 where
   pub places : List (Option ℕ)
   pub config : Config
   pub width : ℕ → ℕ
   pub note : Text
-  pub header_color : Option Color
+  pub color : Position → Option Color
 
-abbrev pub plan_of : List (Option ℕ) → Config → (ℕ → ℕ) → Text → Option Color → Plan
-plan_of places config width note header_color = record { places = places; config = config; width = width; note = note; header_color = header_color }
+-- without colours
+abbrev pub plan_of : List (Option ℕ) → Config → (ℕ → ℕ) → Text → Plan
+plan_of places config width note = record { places = places; config = config; width = width; note = note; color = λ place. None }
 
--- the colour of the text at a place, where those of row 0 have this one
-abbrev pub color_at : Option Color → Position → Option Color
-color_at color place = if place.row == 0 then color else None
+abbrev pub with_colors : (Position → Option Color) → Plan → Plan
+with_colors color plan = record plan { color = color }
 
 -- whether columns are left out, so that there is one of `…`
 abbrev pub leaves_columns_out : Plan → Bool
@@ -39,13 +39,12 @@ is_in_blocks Never plan = false
 is_in_blocks IfOmitting plan = leaves_columns_out plan
 is_in_blocks Always plan = true
 
--- the same, with the widths in a list
+-- the same without colours, with the widths in a list
 pub record Measures : Type 0 where
   pub places : List (Option ℕ)
   pub config : Config
   pub widths : List ℕ
   pub note : Text
-  pub header_color : Option Color
 
 abbrev pub plan_in : Measures → Plan
-plan_in measures = plan_of measures.places measures.config (λ column. slice_index_or measures.widths column 0) measures.note measures.header_color
+plan_in measures = plan_of measures.places measures.config (λ column. slice_index_or measures.widths column 0) measures.note

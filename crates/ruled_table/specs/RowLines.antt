@@ -1,7 +1,6 @@
 -- The lines of a table's rows, which are appended one row after another.
-use Rattle.std.specs.Prelude.{◌≡◌, ℕ, ⊤, ◌==◌, nat_lt, Bool, false, List, [], ◌∷◌, ◌++◌, slice_index_or, Option, Result, Ok, Err, if◌then◌else◌}
+use Rattle.std.specs.Prelude.{◌≡◌, ℕ, ⊤, ◌==◌, nat_lt, Bool, false, List, [], ◌∷◌, ◌++◌, slice_index_or, Result, Ok, Err, if◌then◌else◌}
 use Rattle.pg_layout.specs.Text.{Text}
-use Rattle.pg_layout.specs.Colors.{Color}
 use Rattle.pg_layout.specs.declared.dimension.ConstantDimension.{ConstantDimension}
 use Rattle.pg_fit.specs.Rows.{row_height}
 use Rattle.pg_stream.specs.Conditions.{RowFits}
@@ -9,9 +8,10 @@ use Rattle.pg_stream.specs.LiveStreams.{Live, Living, living}
 use Rattle.pg_stream.specs.Printing.{Printing, after_row, row_text}
 use Rattle.ruled_table.specs.Faults.{is_memory}
 use Rattle.ruled_table.specs.Layouts.{cells_of, heights_of, start_of}
-use Rattle.ruled_table.specs.Plans.{Plan, color_at}
-use Rattle.ruled_table.specs.Shown.{shown_row}
+use Rattle.ruled_table.specs.Plans.{Plan}
+use Rattle.ruled_table.specs.Shown.{color_in, shown_row}
 use Rattle.ruled_table.specs.Widths.{row_within}
+use Rattle.ruled_table.specs.declared.colors.TextColors.{TextColors}
 use Rattle.ruled_table.specs.declared.fault.ViewFault.{ViewFault}
 use Rattle.ruled_table.specs.declared.fault.ViewFault.TheVariants.{Totals}
 use Rattle.ruled_table.specs.declared.options.Options.{Options}
@@ -89,8 +89,8 @@ TellsRoom NoRoom (Ok x) = ⊤
 TellsRoom NoRoom (Err fault) = is_memory fault ≡ false → (fault ≡ Totals) × NoRoom
 
 -- what a stream of rows stands for, by the heights of all of them
-abbrev pub state_of : {A : Type 0} → (ℕ → ℕ) → Live (ConstantDimension A) (Option Color) → Living
-state_of heights s = living (λ sizes column. slice_index_or sizes.0.items column 0) (λ _. heights) (λ color place. color_at color place) s
+abbrev pub state_of : {A : Type 0} → (ℕ → ℕ) → Live (ConstantDimension A) TextColors → Living
+state_of heights s = living (λ sizes column. slice_index_or sizes.0.items column 0) (λ _. heights) color_in s
 
 -- the printer of a table of these cells, whatever heights are said of the rows behind them
 abbrev pub HasPrinted : Plan → List (List Text) → ((ℕ → ℕ) → Living) → Type 0

@@ -1,19 +1,27 @@
 -- What is shown of rows, and what their table looks like.
-use Rattle.std.specs.Prelude.{ℕ, ◌+◌, Bool, List, map, take, Option, Some, None, option_map, if◌then◌else◌, ◌==◌, ◌&&◌, ◌||◌, ◌∷◌, not, chars, codes}
+use Rattle.std.specs.Prelude.{ℕ, ◌+◌, Bool, List, length, map, slice_get, slice_index_or, take, Option, Some, None, option_map, unwrap_or, if◌then◌else◌, ◌==◌, ◌&&◌, ◌||◌, ◌∷◌, not, chars, codes}
 use Rattle.pg_layout.specs.Colors.{Color}
 use Rattle.pg_layout.specs.Text.{Text}
 use Rattle.pg_layout.specs.declared.borders.HorizontalLine.{HorizontalLine}
 use Rattle.pg_layout.specs.declared.position.Entity.TheVariants.{Global}
+use Rattle.pg_layout.specs.declared.position.Position.{Position}
 use Rattle.pg_layout.specs.declared.sides.Indent.{Indent}
 use Rattle.pg_config.specs.Config.{Config, default_config}
 use Rattle.pg_config.specs.Settings.{with_setting}
 use Rattle.pg_fit.specs.Controls.{visible_text}
 use Rattle.ruled_table.specs.Columns.{drawn_at}
 use Rattle.ruled_table.specs.Look.{borders_of, header_line_of}
-use Rattle.ruled_table.specs.Sides.{sided}
+use Rattle.ruled_table.specs.Numbers.{is_number}
+use Rattle.ruled_table.specs.Order.{has_value, is_negative}
+use Rattle.ruled_table.specs.Sides.{is_missing, sided}
+use Rattle.ruled_table.specs.declared.colors.TextColors.{TextColors}
+use Rattle.ruled_table.specs.declared.colors.Tint.{Tint}
+use Rattle.ruled_table.specs.declared.colors.Tint.TheVariants.{Bold, Dim, Red, Green}
 use Rattle.ruled_table.specs.declared.look.Look.{Look}
 use Rattle.ruled_table.specs.declared.options.Options.{Options}
+use Rattle.csv.specs.Records.{fields_of}
 use Rattle.std.specs.List.{flat_map}
+use Rattle.std.specs.Option.{option_and_then}
 use Rattle.std.specs.Char.{encode_utf8}
 
 -- what stands for a character in a cell of Markdown: `\|` for a bar, `\\` for a backslash, and `<br>` for a line feed
@@ -74,14 +82,64 @@ look_config look =
 abbrev pub line_in : Options → Option (HorizontalLine ℕ)
 line_in options = if options.has_header then header_line_of options.look else None
 
--- bold, as terminals have it: ESC [ 1 m, and ESC [ 22 m
-abbrev pub bold : Color
-bold = record { prefix = 27 ∷ codes "[1m"; suffix = 27 ∷ codes "[22m" }
-
--- the colour of the texts of a header, if they have one
-abbrev pub header_color : Options → Option Color
-header_color options = if options.is_colored && options.has_header then Some bold else None
-
 -- each column at its side
 abbrev pub sided_config : Options → List (List Text) → Config
 sided_config options rows = sided options rows (look_config options.look)
+
+-- ---- the colours of texts
+
+-- as terminals have them: ESC [ 1 m in front of a bold text, and ESC [ 22 m behind it
+abbrev pub color_of : Tint → Color
+color_of Bold = record { prefix = 27 ∷ codes "[1m"; suffix = 27 ∷ codes "[22m" }
+color_of Dim = record { prefix = 27 ∷ codes "[2m"; suffix = 27 ∷ codes "[22m" }
+color_of Red = record { prefix = 27 ∷ codes "[31m"; suffix = 27 ∷ codes "[39m" }
+color_of Green = record { prefix = 27 ∷ codes "[32m"; suffix = 27 ∷ codes "[39m" }
+
+-- a number below or above zero
+abbrev pub has_sign : Text → Bool
+has_sign text = is_number text && has_value text
+
+-- where numbers have colours: red below zero, green above it
+abbrev pub sign_tint : Text → Option Tint
+sign_tint text = if has_sign text then Some (if is_negative text then Red else Green) else None
+
+-- the column in front that has the numbers of rows
+abbrev pub is_label : Options → Option ℕ → Bool
+is_label options place = options.is_numbered && (unwrap_or place 1 == 0)
+
+-- the colour of a field that has this place in its row: dim, if it counts as blank
+abbrev pub field_tint : Options → Option ℕ → Text → Option Tint
+field_tint options place text =
+    if is_missing options text then Some Dim
+    else if options.has_signs && not (is_label options place) then sign_tint text
+    else None
+
+-- Where texts have colours, names are bold. Those of a row that isn't known have none.
+abbrev pub tint_of : Options → Bool → Option ℕ → Option (List Text) → Option Tint
+tint_of options is_name place row =
+    if not options.is_colored then None
+    else if is_name then Some Bold
+    else option_and_then (λ fields. field_tint options place (drawn_at fields place)) row
+
+-- whether fields can have colours
+abbrev pub colors_fields : Options → Bool
+colors_fields options = options.is_colored && (options.has_signs || not (length options.missing.items == 0))
+
+module _ (options : Options) (places : List (Option ℕ)) where
+  -- in a table of columns with these places, of which these rows are known
+  abbrev pub color_at : List (List Text) → Position → Option Color
+  color_at rows p = option_map color_of (tint_of options (options.has_header && (p.row == 0)) (slice_index_or places p.col None) (slice_get rows p.row))
+
+  -- in the block of a record: names, and the texts beside them
+  abbrev pub color_beside : List Text → Position → Option Color
+  color_beside row p = option_map color_of (tint_of options (p.col == 0) (slice_index_or places p.row None) (Some row))
+
+-- as a value has them: of rows, or of a block's record
+module _ (colors : TextColors) where
+  abbrev pub tint_in : Bool → ℕ → ℕ → Option Tint
+  tint_in is_name row column =
+      tint_of colors.options.now is_name (slice_index_or colors.places.now column None) (slice_get (map fields_of colors.rows.now) row)
+
+  abbrev pub color_in : Position → Option Color
+  color_in p =
+      option_map color_of (if colors.is_block then tint_in (p.col == 0) 0 p.row else tint_in (colors.options.now.has_header && (p.row == 0)) p.row p.col)

@@ -6,7 +6,7 @@ use Rattle.pg_picture.specs.Sizes.{if_fits}
 use Rattle.pg_picture.specs.Table.{full_width}
 use Rattle.ruled_table.specs.Arranged.{chosen_fault, chosen_rows, count_text}
 use Rattle.ruled_table.specs.Blocks.{blocks_fault, blocks_text}
-use Rattle.ruled_table.specs.Layouts.{first_fault, layout_fault, layout_of, table_of, whole_text}
+use Rattle.ruled_table.specs.Layouts.{colored, first_fault, layout_fault, layout_of, table_of, whole_text}
 use Rattle.ruled_table.specs.Plans.{Plan, is_in_blocks}
 use Rattle.ruled_table.specs.declared.fault.ViewFault.{ViewFault}
 use Rattle.ruled_table.specs.declared.options.Options.{Options}
@@ -17,7 +17,7 @@ use Rattle.ruled_table.specs.declared.options.Vertical.TheVariants.{IfOmitting}
 
 -- All rows are the first ones of their table.
 abbrev pub whole_table : Options → List (List Text) → Text
-whole_table options rows = whole_text options (layout_of options rows) rows
+whole_table options rows = whole_text options (colored options rows (layout_of options rows)) rows
 
 -- what is wrong with it
 abbrev pub whole_fault : Options → List (List Text) → Option ViewFault

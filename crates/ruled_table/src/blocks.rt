@@ -12,7 +12,7 @@ ghost use Rattle.ruled_table.specs.Blocks.{HasNames};
 ghost use Rattle.ruled_table.specs.Shown.{shown_text};
 ghost use Rattle.ruled_table.specs.declared.options.Options.{Options};
 
-use crate::bounds::Bounds;
+use crate::colors::TextColors;
 use crate::columns::places_of;
 use crate::fault::ViewFault;
 use crate::options::Options;
@@ -22,6 +22,7 @@ use crate::table::{look_config, push_text};
 use csv::StringRecord;
 use pg_config::SpannedConfig;
 use std::alloc::{AllocError, Global};
+use std::slice;
 
 /// Records as blocks: a table for each, with a row for each field, of its name and its text.
 #[derive(Drop)]
@@ -74,21 +75,33 @@ impl<'a> Blocks<'a> {
         })
     }
 
-    // Appends the block of a row, of which this record has the texts that are shown.
-    fn push_shown(&self, fields: &StringRecord, buf: &mut String) -> Result<(), ViewFault>
-        ensures text { (options : Options) (rows : List (List Text)) (row : List Text) → HasNames options rows self.now → fields_of fields.now ≡ map (shown_text options) row
-            → OnOk result (string_bytes buf.new ≡ string_bytes buf.old ++ spec.record_block options rows row) }
-        ensures begun { (options : Options) (rows : List (List Text)) (row : List Text) → HasNames options rows self.now → fields_of fields.now ≡ map (shown_text options) row
-            → OnErr result (GainedBeginning buf.old buf.new (spec.record_block options rows row)) }
-        ensures fault { (options : Options) (rows : List (List Text)) (row : List Text) → HasNames options rows self.now → fields_of fields.now ≡ map (shown_text options) row
-            → Tells (spec.record_fault options rows row) result }
+    // Appends the block of a record, of which the other one has the texts that are shown.
+    fn push_shown(
+        &self,
+        fields: &StringRecord,
+        shown: &StringRecord,
+        buf: &mut String,
+    ) -> Result<(), ViewFault>
+        ensures text { (options : Options) (rows : List (List Text)) → HasNames options rows self.now → fields_of shown.now ≡ map (shown_text options) (fields_of fields.now)
+            → OnOk result (string_bytes buf.new ≡ string_bytes buf.old ++ spec.record_block options rows (fields_of fields.now)) }
+        ensures begun { (options : Options) (rows : List (List Text)) → HasNames options rows self.now → fields_of shown.now ≡ map (shown_text options) (fields_of fields.now)
+            → OnErr result (GainedBeginning buf.old buf.new (spec.record_block options rows (fields_of fields.now))) }
+        ensures fault { (options : Options) (rows : List (List Text)) → HasNames options rows self.now → fields_of shown.now ≡ map (shown_text options) (fields_of fields.now)
+            → Tells (spec.record_fault options rows (fields_of fields.now)) result }
     {
         let rows = PairedRows {
             names: &self.names,
-            fields,
+            fields: shown,
             places: &self.places,
         };
-        push_text(self.alloc, &self.options.bounds, &self.config, rows, buf)?;
+        let colors = TextColors {
+            options: self.options,
+            places: &self.places,
+            rows: slice::from_ref(fields),
+            is_block: true,
+        };
+        let (bounds, config) = (&self.options.bounds, &self.config);
+        push_text(self.alloc, bounds, config, &colors, rows, buf)?;
         buf.push('\n')?;
         Ok(())
     }
@@ -102,9 +115,9 @@ impl<'a> Blocks<'a> {
         ensures fault { (options : Options) (rows : List (List Text)) → HasNames options rows self.now → Tells (spec.record_fault options rows (fields_of fields.now)) result }
     {
         if all_stand(self.options, fields) {
-            return self.push_shown(fields, buf);
+            return self.push_shown(fields, fields, buf);
         }
         let shown = made_record(self.alloc, self.options, fields)?;
-        self.push_shown(&shown, buf)
+        self.push_shown(fields, &shown, buf)
     }
 }

@@ -8,11 +8,13 @@ ghost use Rattle.pg_table.specs.declared.fault.TableFault.{TableFault};
 ghost use Rattle.pg_layout.specs.Records.{columns_of};
 ghost use Rattle.ruled_table.specs.Bounds as spec;
 ghost use Rattle.ruled_table.specs.LentRows.{pairs_in};
+ghost use Rattle.ruled_table.specs.Shown.{color_in};
 
+use crate::colors::TextColors;
 use crate::columns::told_of;
 use crate::paired_rows::PairedRows;
 use pg_config::SpannedConfig;
-use pg_layout::{NoColors, Records};
+use pg_layout::Records;
 use pg_table::{NaturalTable, Overflow, TableFault};
 use std::alloc::{AllocError, Global};
 
@@ -78,15 +80,16 @@ impl Bounds {
         &self,
         alloc: Global,
         config: &SpannedConfig,
+        colors: &TextColors<'_>,
         rows: PairedRows<'_>,
         buf: &mut String,
     ) -> Result<(), TableFault>
-        ensures text { OnOk result (string_bytes buf.new ≡ string_bytes buf.old ++ picture Known (spec.bounded_table self.now config.now (pairs_in rows.entry))) }
-        ensures begun { OnErr result (GainedBeginning buf.old buf.new (picture Known (spec.bounded_table self.now config.now (pairs_in rows.entry)))) }
-        ensures ok { IsOk result → spec.bounded_fault self.now config.now (pairs_in rows.entry) ≡ None }
-        ensures fault { (fault : TableFault) → result ≡ Err fault → fault ≢ TableFault.Memory → is_none (spec.bounded_fault self.now config.now (pairs_in rows.entry)) ≡ false }
+        ensures text { OnOk result (string_bytes buf.new ≡ string_bytes buf.old ++ picture Known (spec.bounded_table self.now config.now (color_in colors.now) (pairs_in rows.entry))) }
+        ensures begun { OnErr result (GainedBeginning buf.old buf.new (picture Known (spec.bounded_table self.now config.now (color_in colors.now) (pairs_in rows.entry)))) }
+        ensures ok { IsOk result → spec.bounded_fault self.now config.now (color_in colors.now) (pairs_in rows.entry) ≡ None }
+        ensures fault { (fault : TableFault) → result ≡ Err fault → fault ≢ TableFault.Memory → is_none (spec.bounded_fault self.now config.now (color_in colors.now) (pairs_in rows.entry)) ≡ false }
     {
-        let table = NaturalTable::new(rows, config, &NoColors);
+        let table = NaturalTable::new(rows, config, colors);
         if !self.are_told() {
             return table.print(alloc, buf);
         }

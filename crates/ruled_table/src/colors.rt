@@ -1,58 +1,132 @@
-//! Colours of the texts of a table.
+//! Colours of the texts of a table, and of a block.
 
-ghost use Rattle.std.specs.Prelude.{◌≡◌, is_none};
-ghost use Rattle.ruled_table.specs.Plans.{color_at};
-ghost use Rattle.ruled_table.specs.Shown.{header_color};
+ghost use Rattle.std.specs.Prelude.{◌≡◌, not, option_map, map};
+ghost use Rattle.csv.specs.Records.{fields_of};
+ghost use Rattle.pg_layout.specs.Colors.{lent_color};
+ghost use Rattle.ruled_table.specs.Plans.{plan_in};
+ghost use Rattle.ruled_table.specs.Shown as spec;
 
+use crate::columns::drawn_at;
+use crate::layout::Layout;
+use crate::numbers::{has_value, is_negative, is_number};
 use crate::options::Options;
-use pg_layout::{ANSIStr, Colors, Position};
-use std::marker::Model;
+use crate::sides::is_missing;
+use csv::StringRecord;
+use pg_layout::{ANSIFmt, Colors, Position};
 
-/// The colours of the texts of a table: those of row 0 have one, if it is a header in colour.
-#[derive(Drop)]
-pub(crate) struct HeaderColors {
-    header: Option<ANSIStr<'static>>,
+/// A colour of a text.
+#[derive(Clone, Copy)]
+pub enum Tint {
+    /// In bold.
+    Bold,
+    /// Dim.
+    Dim,
+    /// Red.
+    Red,
+    /// Green.
+    Green,
 }
 
-impl Model for HeaderColors {
-    ghost use Rattle.std.specs.Prelude.{Option, option_map};
-    ghost use Rattle.pg_layout.specs.Colors.{Color, str_color};
+impl ANSIFmt for Tint {
+    ghost color_of = { spec.color_of };
 
-    ghost Value = { Option Color };
+    fn prefix(&self) -> &str {
+        match self {
+            Tint::Bold => "\x1b[1m",
+            Tint::Dim => "\x1b[2m",
+            Tint::Red => "\x1b[31m",
+            Tint::Green => "\x1b[32m",
+        }
+    }
 
-    ghost view = { λ c. option_map str_color c.header };
-}
-
-impl HeaderColors {
-    /// The colours of a table that is shown so.
-    pub(crate) fn of(options: &Options) -> HeaderColors
-        ensures { result ≡ header_color options.now }
-    {
-        let is_bold = options.is_colored && options.has_header;
-        let bold = ANSIStr::new("\x1b[1m", "\x1b[22m");
-        HeaderColors {
-            header: if is_bold { Some(bold) } else { None },
+    fn suffix(&self) -> &str {
+        match self {
+            Tint::Bold | Tint::Dim => "\x1b[22m",
+            Tint::Red | Tint::Green => "\x1b[39m",
         }
     }
 }
 
-impl Colors for HeaderColors {
-    type Color = ANSIStr<'static>;
+// Whether a text is a number below or above zero.
+fn has_sign(text: &str) -> bool
+    ensures { result ≡ spec.has_sign text.now }
+{
+    is_number(text) && has_value(text.as_bytes())
+}
 
-    ghost color = { λ c place. color_at c place };
+// The colour of a field that has this place in its row, in front of which its number may be.
+fn field_tint(options: &Options, place: Option<usize>, text: &str) -> Option<&'static Tint>
+    ensures { lent_color spec.color_of result ≡ option_map spec.color_of (spec.field_tint options.now place text.now) }
+{
+    if is_missing(options, text) {
+        return Some(&Tint::Dim);
+    }
+    let is_label = options.is_numbered && place.unwrap_or(1) == 0;
+    if !options.has_signs || is_label || !has_sign(text) {
+        return None;
+    }
+    if is_negative(text.as_bytes()) {
+        return Some(&Tint::Red);
+    }
+    Some(&Tint::Green)
+}
 
-    ghost is_colorless = { λ c. is_none c };
+/// The colours of the texts of a table, or of a block. In a table those of rows that aren't known have none, except in
+/// a header.
+#[derive(Drop)]
+pub struct TextColors<'a> {
+    pub(crate) options: &'a Options,
+    /// The place of each column's field in its row; of a block those of its rows.
+    pub(crate) places: &'a [Option<usize>],
+    /// The known rows of the table, or the record of the block.
+    pub(crate) rows: &'a [StringRecord],
+    pub(crate) is_block: bool,
+}
 
-    #[inline(always)]
-    fn get_color(&self, pos: Position) -> Option<&ANSIStr<'static>> {
-        if pos.row == 0 {
-            self.header.as_ref()
-        } else {
-            None
+impl<'a> TextColors<'a> {
+    /// The colours of a table of this layout, of which these rows are known.
+    pub fn new(options: &'a Options, layout: &'a Layout, rows: &'a [StringRecord]) -> TextColors<'a>
+        ensures { spec.color_in result ≡ spec.color_at options.now (plan_in layout.now).places (map fields_of rows.now) }
+    {
+        TextColors {
+            options,
+            places: &layout.places,
+            rows,
+            is_block: false,
         }
+    }
+
+    // The colour of a field in a column of a row, or of a name there.
+    fn tint_at(&self, is_name: bool, row: usize, column: usize) -> Option<&'static Tint>
+        ensures { lent_color spec.color_of result ≡ option_map spec.color_of (spec.tint_in self.now is_name row column) }
+    {
+        if !self.options.is_colored {
+            return None;
+        }
+        if is_name {
+            return Some(&Tint::Bold);
+        }
+        let fields = self.rows.get(row)?;
+        let place = self.places.get(column).copied().unwrap_or(None);
+        field_tint(self.options, place, drawn_at(fields, place))
+    }
+}
+
+impl Colors for TextColors<'_> {
+    type Color = Tint;
+
+    ghost color = { spec.color_in };
+
+    ghost is_colorless = { λ colors. not colors.options.now.is_colored };
+
+    fn get_color(&self, pos: Position) -> Option<&Tint> {
+        if self.is_block {
+            return self.tint_at(pos.col == 0, 0, pos.row);
+        }
+        self.tint_at(self.options.has_header && pos.row == 0, pos.row, pos.col)
     }
 
     fn is_empty(&self) -> bool {
-        self.header.is_none()
+        !self.options.is_colored
     }
 }

@@ -9,7 +9,6 @@ ghost use Rattle.ruled_table.specs.Plans.{is_in_blocks, leaves_columns_out, plan
 ghost use Rattle.ruled_table.specs.Shown.{shown_text};
 ghost use Rattle.ruled_table.specs.View.{excess_of};
 
-use crate::colors::HeaderColors;
 use crate::columns::places_of;
 use crate::fault::ViewFault;
 use crate::lent_rows::LentRows;
@@ -34,7 +33,6 @@ pub struct Layout {
     /// The line below the table, with its line feed: how many columns there are, and how many are
     /// shown. It is empty if all are.
     pub(crate) note: String,
-    pub(crate) colors: HeaderColors,
 }
 
 impl Model for Layout {
@@ -43,7 +41,7 @@ impl Model for Layout {
 
     ghost Value = { Measures };
 
-    ghost view = { λ l. record { places = l.places.items; config = l.config; widths = l.widths.0.items; note = string_bytes l.note; header_color = l.colors } };
+    ghost view = { λ l. record { places = l.places.items; config = l.config; widths = l.widths.0.items; note = string_bytes l.note } };
 
     ghost invariant = { λ l. l.config.spans ≡ [] };
 }
@@ -252,7 +250,6 @@ impl Layout {
             config,
             widths,
             note,
-            colors: HeaderColors::of(options),
         })
     }
 }

@@ -28,6 +28,7 @@ mod widths;
 pub use crate::arrangement::{named, padded, padded_rows};
 pub use crate::blocks::Blocks;
 pub use crate::bounds::Bounds;
+pub use crate::colors::TextColors;
 pub use crate::columns::field_at;
 pub use crate::fault::ViewFault;
 pub use crate::layout::Layout;

@@ -167,6 +167,15 @@ fn mantissa_of(text: &[u8]) -> &[u8]
     }
 }
 
+/// Whether a number has a digit that isn't 0, except in a power of ten.
+pub(crate) fn has_value(text: &[u8]) -> bool
+    ensures { result ≡ order.has_value text.now }
+{
+    mantissa_of(text)
+        .iter()
+        .any(|byte| byte.is_ascii_digit() && *byte != b'0')
+}
+
 // The number that digits write, or the greatest one.
 fn size_of(digits: &[u8]) -> u64
     ensures { result ≡ order.size_of digits.now }

@@ -11,12 +11,13 @@ ghost use Rattle.pg_stream.specs.SizedStreams.{CountsLines, IsNextHeight};
 ghost use Rattle.ruled_table.specs.Appended.{AreEven, HasDrawn};
 ghost use Rattle.ruled_table.specs.Faults.{Tells};
 ghost use Rattle.ruled_table.specs.Layouts.{start_fault, whole_of};
-ghost use Rattle.ruled_table.specs.Plans.{Plan, plan_in};
+ghost use Rattle.ruled_table.specs.Plans.{Plan, plan_in, with_colors};
+ghost use Rattle.ruled_table.specs.Shown.{color_in};
 ghost use Rattle.ruled_table.specs.RowLines.{GrowsTo, HasNoRoomBelow, TellsRoom, begun_of, but_feed, ended, ended_by, note_below, state_of};
 ghost use Rattle.ruled_table.specs.declared.fault.ViewFault.{ViewFault};
 ghost use Rattle.ruled_table.specs.declared.fault.ViewFault.TheVariants.{Memory};
 
-use crate::colors::HeaderColors;
+use crate::colors::TextColors;
 use crate::fault::ViewFault;
 use crate::layout::Layout;
 use pg_fit::row_height;
@@ -27,7 +28,7 @@ use std::borrow::CowStr;
 use std::convert::AsStr;
 
 /// The printer of rows whose widths are known.
-pub(crate) type Sheet<'a> = SizedStream<'a, String, ConstantDimension, HeaderColors>;
+pub(crate) type Sheet<'a> = SizedStream<'a, String, ConstantDimension, TextColors<'a>>;
 
 /// The rows of a table, whose lines are appended to a buffer, one row after another, and then its end.
 ///
@@ -176,9 +177,13 @@ fn append_end(lines: &mut String, below: &str, buf: &mut String) -> Result<(), A
 }
 
 impl<'a> RowLines<'a> {
-    /// A table of this layout before its first row.
-    pub(crate) fn new(alloc: Global, layout: &'a Layout) -> Result<RowLines<'a>, ViewFault>
-        ensures begun { IfOk result (λ rows. HasDrawn (plan_in layout.now) [] rows) }
+    /// A table of this layout and these colours before its first row.
+    pub(crate) fn new(
+        alloc: Global,
+        layout: &'a Layout,
+        colors: &'a TextColors<'a>,
+    ) -> Result<RowLines<'a>, ViewFault>
+        ensures begun { IfOk result (λ rows. HasDrawn (with_colors (color_in colors.now) (plan_in layout.now)) [] rows) }
         ensures fault { Tells (start_fault (plan_in layout.now)) result }
     {
         let Layout {
@@ -186,7 +191,6 @@ impl<'a> RowLines<'a> {
             config,
             widths,
             note,
-            colors,
         } = layout;
         let sheet = SizedStream::new(alloc, config, widths, colors, places.len())?;
         Ok(RowLines {

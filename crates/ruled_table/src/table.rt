@@ -8,9 +8,10 @@ ghost use Rattle.ruled_table.specs.Bounds.{bounded_fault, bounded_table};
 ghost use Rattle.ruled_table.specs.Faults.{Tells, totals_of};
 ghost use Rattle.ruled_table.specs.LentRows.{texts_of, pairs_in};
 ghost use Rattle.ruled_table.specs.Tables.{fault_with, text_with, with_line};
-ghost use Rattle.ruled_table.specs.Shown.{line_in, look_config, sided_config};
+ghost use Rattle.ruled_table.specs.Shown.{color_in, line_in, look_config, sided_config};
 
 use crate::bounds::Bounds;
+use crate::colors::TextColors;
 use crate::fault::{ViewFault, fault_in};
 use crate::lent_rows::LentRows;
 use crate::look::Look;
@@ -76,14 +77,15 @@ fn push_picture(
     alloc: Global,
     bounds: &Bounds,
     config: &SpannedConfig,
+    colors: &TextColors<'_>,
     rows: PairedRows<'_>,
     buf: &mut String,
 ) -> Result<(), ViewFault>
-    ensures text { OnOk result (string_bytes buf.new ≡ string_bytes buf.old ++ (picture Known (bounded_table bounds.now config.now (pairs_in rows.entry)) ++ 10 ∷ [])) }
-    ensures begun { OnErr result (GainedBeginning buf.old buf.new (picture Known (bounded_table bounds.now config.now (pairs_in rows.entry)) ++ 10 ∷ [])) }
-    ensures fault { Tells (totals_of (bounded_fault bounds.now config.now (pairs_in rows.entry))) result }
+    ensures text { OnOk result (string_bytes buf.new ≡ string_bytes buf.old ++ (picture Known (bounded_table bounds.now config.now (color_in colors.now) (pairs_in rows.entry)) ++ 10 ∷ [])) }
+    ensures begun { OnErr result (GainedBeginning buf.old buf.new (picture Known (bounded_table bounds.now config.now (color_in colors.now) (pairs_in rows.entry)) ++ 10 ∷ [])) }
+    ensures fault { Tells (totals_of (bounded_fault bounds.now config.now (color_in colors.now) (pairs_in rows.entry))) result }
 {
-    match bounds.print(alloc, config, rows, buf) {
+    match bounds.print(alloc, config, colors, rows, buf) {
         Ok(()) => Ok(buf.push('\n')?),
         Err(fault) => Err(fault_in(fault)),
     }
@@ -95,15 +97,16 @@ pub(crate) fn push_text(
     alloc: Global,
     bounds: &Bounds,
     config: &SpannedConfig,
+    colors: &TextColors<'_>,
     rows: PairedRows<'_>,
     buf: &mut String,
 ) -> Result<(), ViewFault>
-    ensures text { OnOk result (string_bytes buf.new ≡ string_bytes buf.old ++ text_with bounds.now config.now (pairs_in rows.entry)) }
-    ensures begun { OnErr result (GainedBeginning buf.old buf.new (text_with bounds.now config.now (pairs_in rows.entry))) }
-    ensures fault { Tells (fault_with bounds.now config.now (pairs_in rows.entry)) result }
+    ensures text { OnOk result (string_bytes buf.new ≡ string_bytes buf.old ++ text_with bounds.now config.now (color_in colors.now) (pairs_in rows.entry)) }
+    ensures begun { OnErr result (GainedBeginning buf.old buf.new (text_with bounds.now config.now (color_in colors.now) (pairs_in rows.entry))) }
+    ensures fault { Tells (fault_with bounds.now config.now (color_in colors.now) (pairs_in rows.entry)) result }
 {
     if rows.count_rows() == 0 {
         return Ok(());
     }
-    push_picture(alloc, bounds, config, rows, buf)
+    push_picture(alloc, bounds, config, colors, rows, buf)
 }

@@ -10,14 +10,15 @@ ghost use Rattle.ruled_table.specs.Appended.{HasAppended, IsOver};
 ghost use Rattle.ruled_table.specs.Columns.{drawn_at};
 ghost use Rattle.ruled_table.specs.Faults.{Tells};
 ghost use Rattle.ruled_table.specs.Layouts.{start_fault, whole_text};
-ghost use Rattle.ruled_table.specs.Plans.{Plan, plan_in};
+ghost use Rattle.ruled_table.specs.Plans.{Plan, plan_in, with_colors};
 ghost use Rattle.ruled_table.specs.RowLines.{GrowsTo, HasNoRoom, TellsRoom, begun_text};
-ghost use Rattle.ruled_table.specs.Shown.{shown_row, shown_text};
+ghost use Rattle.ruled_table.specs.Shown.{color_in, shown_row, shown_text};
 ghost use Rattle.ruled_table.specs.Widths as spec;
 ghost use Rattle.ruled_table.specs.declared.fault.ViewFault.{ViewFault};
 ghost use Rattle.ruled_table.specs.declared.fault.ViewFault.TheVariants.{Memory};
 ghost use Rattle.ruled_table.specs.declared.options.Options.{Options};
 
+use crate::colors::TextColors;
 use crate::columns::{drawn_at, field_at};
 use crate::fault::ViewFault;
 use crate::layout::Layout;
@@ -130,18 +131,19 @@ fn fill_plain<'a>(
 }
 
 impl<'a> TableRows<'a> {
-    /// A table before its first row.
+    /// A table with these colours of its texts, before its first row.
     ///
     /// `ViewFault::Totals` says that the layout has no columns, or that their total width is too large.
     pub fn new(
         alloc: Global,
         options: &'a Options,
         layout: &'a Layout,
+        colors: &'a TextColors<'a>,
     ) -> Result<TableRows<'a>, ViewFault>
-        ensures begun { IfOk result (λ table. HasAppended options.now (plan_in layout.now) [] table) }
+        ensures begun { IfOk result (λ table. HasAppended options.now (with_colors (color_in colors.now) (plan_in layout.now)) [] table) }
         ensures fault { Tells (start_fault (plan_in layout.now)) result }
     {
-        let rows = RowLines::new(alloc, layout)?;
+        let rows = RowLines::new(alloc, layout, colors)?;
         Ok(TableRows {
             alloc,
             options,

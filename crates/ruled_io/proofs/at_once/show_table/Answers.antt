@@ -1,8 +1,11 @@
-use Rattle.std.proofs.Common.{◌≡◌, ◌∙◌, List, None, map, sym, ap}
+use Rattle.std.proofs.Common.{◌≡◌, ◌∙◌, [], List, None, Option, map, subst, sym, ap}
 use Rattle.csv.specs.Records.{fields_of}
 use Rattle.pg_layout.specs.Text.{Text}
-use Rattle.ruled_table.specs.Plans.{plan_in}
-use Rattle.ruled_table.specs.Layouts.{layout_of, start_fault}
+use Rattle.pg_layout.specs.Colors.{Color}
+use Rattle.pg_layout.specs.declared.position.Position.{Position}
+use Rattle.ruled_table.specs.Appended.{HasAppended}
+use Rattle.ruled_table.specs.Plans.{plan_in, with_colors}
+use Rattle.ruled_table.specs.Layouts.{colored, layout_of, start_fault}
 use Rattle.ruled_table.specs.View.{whole_table}
 use Rattle.ruled_io.proofs.AtOnce.{view-draws, whole-draws}
 use Rattle.ruled_io.proofs.at_once.show_table.Goals as goal
@@ -21,4 +24,5 @@ returns-clause-draws g c = λ laid.
     let options = c.args.options.now in
     let fine : start_fault (layout_of options rows) ≡ None = ap start_fault (sym laid) ∙ c.in_ok-table.ensures.fault in
     whole-draws options (plan_in c.args.layout.now) rows (start_fault (layout_of options rows)) (g.W.Write.contents c.args.out.now.writer) (g.W.Write.contents c.write_whole.new.out.writer) c.write_whole.result
-    laid fine (c.write_whole.ensures.draws options (plan_in c.args.layout.now) c.in_ok-table.ensures.begun)
+    laid fine (c.write_whole.ensures.draws options (colored options rows (plan_in c.args.layout.now))
+    (subst (λ (color : Position → Option Color). HasAppended options (with_colors color (plan_in c.args.layout.now)) [] c.in_ok-table.table) c.new-colors.ensures c.in_ok-table.ensures.begun))

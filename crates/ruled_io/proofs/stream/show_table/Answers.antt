@@ -5,8 +5,11 @@ use Rattle.std.proofs.lemmas.Bool.{eqb-true}
 use Rattle.std.proofs.lemmas.List.{length-map}
 use Rattle.csv.specs.Records.{fields_of}
 use Rattle.pg_layout.specs.Text.{Text}
-use Rattle.ruled_table.specs.Plans.{plan_in}
-use Rattle.ruled_table.specs.Layouts.{first_fault, layout_fault, layout_of, start_fault}
+use Rattle.pg_layout.specs.Colors.{Color}
+use Rattle.pg_layout.specs.declared.position.Position.{Position}
+use Rattle.ruled_table.specs.Appended.{HasAppended}
+use Rattle.ruled_table.specs.Plans.{plan_in, with_colors}
+use Rattle.ruled_table.specs.Layouts.{colored, first_fault, layout_fault, layout_of, start_fault}
 use Rattle.ruled_table.specs.declared.fault.ViewFault.{ViewFault}
 use Rattle.ruled_io.specs.Faults.{of_view}
 use Rattle.ruled_io.specs.declared.fault.RunFault.TheVariants.{Input}
@@ -88,8 +91,9 @@ returns-clause-ends g c = λ format records all some enough stands.
     let there = some-rows c.args.count format records all left given c.args.reading above stands in
     table-ends options c.args.count sound (wrong_in format records all) (plan_in c.in_ok-layout.layout) (g.W.Write.contents c.args.out.now.writer) (g.W.Write.contents c.write_table-answer.new.out.writer) c.write_table-answer.result c.excess-wide.result c.and.result laid
     (judged options c.args.count sound (wrong_in format records all) (open-rows c.args.count format records all left given c.args.reading enough stands clean) there ∙ ap (option_map of_view) none) there
-    (c.write_table-answer.ensures.ends options (plan_in c.in_ok-layout.layout) format records all []
-    (subst (λ (rows : List (List Text)). Stands format records all left rows c.args.reading) (sym c.in_ok-layout.ensures.rows) stands) c.in_ok-table.ensures.begun)
+    (c.write_table-answer.ensures.ends options (colored options [] (plan_in c.in_ok-layout.layout)) format records all []
+    (subst (λ (rows : List (List Text)). Stands format records all left rows c.args.reading) (sym c.in_ok-layout.ensures.rows) stands)
+    (subst (λ (color : Position → Option Color). HasAppended options (with_colors color (plan_in c.in_ok-layout.layout)) [] c.in_ok-table.table) c.new-colors.ensures c.in_ok-table.ensures.begun))
     c.excess-wide.ensures c.and.ensures
 
 pub returns-clause-told : goal.returns-clause-told
