@@ -1,10 +1,12 @@
 //! The arguments of the program.
 
-use crate::source::{copy_of, is_padded, name_in, selected, source_asked, unstreamed};
+use crate::source::{
+    files_in, first_name, is_padded, selected, source_asked, unstreamed, with_members,
+};
 use clap::error::ErrorKind;
 use clap::{Arg, ArgAction, ArgMatches, Command};
 use pg_layout::AlignmentHorizontal;
-use ruled_io::{Encoding, Kind, OneLine, Request, Rows, Source};
+use ruled_io::{Encoding, FurtherInput, Kind, MemberRules, OneLine, Request, Rows, Source};
 use ruled_table::{Bounds, Breaking, Look, Options, Overflow, Sort, Vertical};
 use std::alloc::{AllocError, Global};
 use std::env::VarError;
@@ -24,10 +26,9 @@ static SIDES: [&str; 5] = ["auto", "left", "right", "centre", "center"];
 /// What is to be shown.
 #[derive(Drop)]
 pub(crate) struct Wanted {
-    /// The file that is read, or `None` for standard input.
-    pub(crate) file: Option<String>,
-    /// Its encoding, if one is asked for.
+    /// The encoding of the files, if one is asked for.
     pub(crate) encoding: Option<Encoding>,
+    /// What is shown of which files. Standard input is `-`, and no further file is read yet.
     pub(crate) request: Request,
 }
 
@@ -55,8 +56,8 @@ struct Screen {
 enum Takes {
     /// No value: a flag.
     Nothing,
-    /// The name of a file, by its place.
-    File,
+    /// Names of files, by their places.
+    Files,
     /// A text.
     Text,
     /// A number.
@@ -112,8 +113,8 @@ const CHOICES: [Choice; 38] = [
     Choice {
         name: "file",
         value: "FILE",
-        takes: Takes::File,
-        help: "The file to read; standard input if it is missing or -",
+        takes: Takes::Files,
+        help: "Files to read, as one table if they have one header; standard input if there is none, or for -",
         ..FLAG
     },
     Choice {
@@ -405,8 +406,9 @@ fn argument<'a>(alloc: Global, choice: &Choice, looks: &'a [&'a str]) -> Arg<'a>
             .long(choice.name)
             .help(choice.help)
             .action(ArgAction::SetTrue),
-        Takes::File => Arg::new(alloc, choice.name)
+        Takes::Files => Arg::new(alloc, choice.name)
             .value_name(choice.value)
+            .num_args(0..)
             .help(choice.help),
         Takes::Text => option(alloc, choice),
         Takes::Number => option(alloc, choice).value_parser(clap::value_parser!(u32)),
@@ -655,24 +657,54 @@ fn rows_of(found: &ArgMatches) -> Rows {
     }
 }
 
-// What was asked for, of this source and in this look.
+// How JSON is read.
+fn members_asked(alloc: Global, found: &ArgMatches) -> Result<MemberRules, AllocError> {
+    Ok(MemberRules {
+        path: names_of(alloc, found.get_str("at"), '.')?,
+        null: String::from_str(alloc, found.get_str("null").unwrap_or(""))?,
+        is_flat: found.get_flag("flatten"),
+    })
+}
+
+// The files behind the first one, of which nothing is read yet, or why their rows can't be below its own.
+fn further_files(
+    alloc: Global,
+    found: &ArgMatches,
+) -> Result<Result<Vec<FurtherInput>, &'static str>, AllocError> {
+    let mut files = Vec::new(alloc);
+    for name in files_in(found).iter().skip(1) {
+        let source = match source_asked(alloc, found, name) {
+            Ok(source) => source,
+            Err(told) => return Ok(Err(told)),
+        };
+        files.push(FurtherInput {
+            name: String::from_str(alloc, name)?,
+            source: with_members(source, members_asked(alloc, found)?),
+            bytes: Vec::new(alloc),
+        })?;
+    }
+    Ok(Ok(files))
+}
+
+// What was asked for, of a first file that is this source and of further ones, in this look.
 fn table_of(
     alloc: Global,
     found: &ArgMatches,
     source: Source,
+    further: Vec<FurtherInput>,
     look: Look,
     screen: Screen,
 ) -> Result<Wanted, AllocError> {
-    let file = copy_of(alloc, name_in(found))?;
     let encoding = found.get_str("encoding").and_then(Encoding::by_name);
     let mut view = view_of(alloc, found, look, screen)?;
-    let path = names_of(alloc, found.get_str("at"), '.')?;
-    let source = selected(alloc, found, source, path, &mut view)?;
+    let members = members_asked(alloc, found)?;
+    let source = selected(alloc, found, source, members, &mut view)?;
     Ok(Wanted {
-        file,
         encoding,
         request: Request {
+            name: String::from_str(alloc, first_name(found))?,
             source,
+            further,
             rows: rows_of(found),
             view,
         },
@@ -750,25 +782,32 @@ fn tell_of(rt: &HostRuntime, words: &[String]) -> io::Result<u8> {
 
 // What the input is, and what its table looks like, or why they can't be.
 fn input_and_look(alloc: Global, found: &ArgMatches) -> Result<(Source, Look), &'static str> {
-    let source = source_asked(alloc, found)?;
+    let source = source_asked(alloc, found, first_name(found))?;
     if let Some(told) = unstreamed(found, &source) {
         return Err(told);
     }
     Ok((source, look_asked(found)?))
 }
 
+// Prints why there can't be a table.
+fn refuse(rt: &HostRuntime, told: &str) -> io::Result<Asked> {
+    eprintln!(rt; "ruled: {told}")?;
+    Ok(Asked::Told(2))
+}
+
 // What the arguments ask for that clap has read.
 fn asked_of(rt: &HostRuntime, found: &ArgMatches) -> io::Result<Asked> {
     let screen = screen_of(rt)?;
+    let further = match further_files(rt.alloc(), found)? {
+        Ok(further) => further,
+        Err(told) => return refuse(rt, told),
+    };
     match input_and_look(rt.alloc(), found) {
         Ok((source, look)) => {
-            let wanted = table_of(rt.alloc(), found, source, look, screen)?;
+            let wanted = table_of(rt.alloc(), found, source, further, look, screen)?;
             Ok(Asked::Table(wanted))
         }
-        Err(told) => {
-            eprintln!(rt; "ruled: {told}")?;
-            Ok(Asked::Told(2))
-        }
+        Err(told) => refuse(rt, told),
     }
 }
 

@@ -12,7 +12,9 @@ use crate::arguments::{Asked, Wanted, read_arguments};
 use crate::compression::unpacker;
 use crate::logs::log_beside;
 use crate::waiting::Waiting;
-use ruled_io::{Decoded, Encoding, Known, Output, Pieces, Quoted, Request, Selection, Source, run};
+use ruled_io::{
+    Decoded, Encoding, FurtherInput, Known, Output, Pieces, Quoted, Request, Selection, Source, run,
+};
 use std::fs::File;
 use std::io::{BufWriter, ErrorKind, Read, Write};
 use std::process::ExitCode;
@@ -21,10 +23,11 @@ use std::{fs, io};
 // Why a file can't be read, in a few words.
 fn words_of(error: &io::Error) -> &'static str {
     match error.kind() {
+        ErrorKind::InvalidData => "not UTF-16: a lone surrogate or an odd byte",
         ErrorKind::NotFound => "no such file",
         ErrorKind::PermissionDenied => "permission denied",
         ErrorKind::IsADirectory => "is a folder",
-        _ => "can't be opened",
+        _ => "can't be read",
     }
 }
 
@@ -40,27 +43,92 @@ fn may_be_database(source: &Source) -> bool {
     }
 }
 
-// Opens the file of this name, once it is known what the logs beside it may have, where it may be a database.
-// A folder can be opened, too: only a read of it fails, when its name is no longer known.
-fn open(rt: &HostRuntime, name: &str, request: &mut Request) -> io::Result<File> {
+// Opens the file of this name. A folder can be opened, too: only a read of it fails, when its name is no longer known.
+fn open(rt: &HostRuntime, name: &str) -> io::Result<File> {
     if fs::metadata(rt, name)?.is_dir() {
         return Err(ErrorKind::IsADirectory.into());
-    }
-    if may_be_database(&request.source) {
-        request.source.set_log(log_beside(rt, name)?);
     }
     fs::open(rt, name)
 }
 
-// Shows the table of an input in this encoding, and returns the exit status.
-fn show_input<R: Read + Drop>(
+// Opens the first file, once it is known what the logs beside it may have, where it may be a database.
+fn open_first(rt: &HostRuntime, request: &mut Request) -> io::Result<File> {
+    let name = request.name.as_str();
+    if may_be_database(&request.source) {
+        request.source.set_log(log_beside(rt, name)?);
+    }
+    open(rt, name)
+}
+
+// Reports that the file of this name can't be read, and returns the exit status. The only error is out of memory.
+fn tell_unread(rt: &HostRuntime, name: &str, error: io::Error) -> io::Result<u8> {
+    if error.kind() == ErrorKind::OutOfMemory {
+        return Err(error);
+    }
+    let name = Quoted(name);
+    let _ = writeln!(rt.stderr(), "ruled: {name}: {}", words_of(&error));
+    let is_bad_text = error.kind() == ErrorKind::InvalidData;
+    Ok(if is_bad_text { 2 } else { 5 })
+}
+
+// Reports a file of this name that is compressed, and returns the exit status, or `None` if it isn't.
+fn tell_compressed(rt: &HostRuntime, name: &str) -> io::Result<Option<u8>> {
+    let Some(unpacker) = unpacker(rt, name)? else {
+        return Ok(None);
+    };
+    let name = Quoted(name);
+    let _ = writeln!(
+        rt.stderr(),
+        "ruled: {name}: compressed; try {unpacker} {name} | ruled"
+    );
+    Ok(Some(2))
+}
+
+// Reads all of an input in this encoding.
+fn read_all<R: Read + Drop>(
     rt: &HostRuntime,
-    request: &Request,
     encoding: Option<Encoding>,
     input: R,
-) -> io::Result<u8> {
+    bytes: &mut Vec<u8>,
+) -> io::Result<()> {
+    Decoded::new(Waiting::new(*rt, input), encoding).read_to_end(bytes)?;
+    Ok(())
+}
+
+// Reads all of a further file in this encoding.
+fn read_further(
+    rt: &HostRuntime,
+    encoding: Option<Encoding>,
+    further: &mut FurtherInput,
+) -> io::Result<()> {
+    match further.name.as_str() {
+        "-" => read_all(rt, encoding, rt.stdin(), &mut further.bytes),
+        name => read_all(rt, encoding, open(rt, name)?, &mut further.bytes),
+    }
+}
+
+// Reads all further files, and returns the exit status of one that can't be read, or `None`. The only error is out of
+// memory.
+fn read_all_further(rt: &HostRuntime, wanted: &mut Wanted) -> io::Result<Option<u8>> {
+    for further in &mut wanted.request.further {
+        if let Some(status) = tell_compressed(rt, further.name.as_str())? {
+            return Ok(Some(status));
+        }
+        if let Err(error) = read_further(rt, wanted.encoding, further) {
+            return Ok(Some(tell_unread(rt, further.name.as_str(), error)?));
+        }
+    }
+    Ok(None)
+}
+
+// Shows the table of the first file, which is this input, and of the further files, and returns the exit status.
+fn show_input<R: Read + Drop>(rt: &HostRuntime, mut wanted: Wanted, input: R) -> io::Result<u8> {
+    if let Some(status) = read_all_further(rt, &mut wanted)? {
+        return Ok(status);
+    }
     let mut out = Output::new(BufWriter::new(rt.alloc(), rt.stdout())?);
-    let mut input = Pieces::new(Decoded::new(Waiting::new(*rt, input), encoding));
+    let mut input = Pieces::new(Decoded::new(Waiting::new(*rt, input), wanted.encoding));
+    let request = &wanted.request;
     let status = run(rt.alloc(), request, &mut input, &mut out, &mut rt.stderr()).status();
     // What a write that failed has left isn't written once more.
     let _parts = out.into_writer().into_parts();
@@ -68,27 +136,16 @@ fn show_input<R: Read + Drop>(
 }
 
 // Shows the requested table, and returns the exit status. The only error is out of memory.
-fn show(rt: &HostRuntime, wanted: Wanted) -> io::Result<u8> {
-    let mut request = wanted.request;
-    let Some(name) = &wanted.file else {
-        return show_input(rt, &request, wanted.encoding, rt.stdin());
-    };
-    if let Some(unpacker) = unpacker(rt, name.as_str())? {
-        let name = Quoted(name.as_str());
-        let _ = writeln!(
-            rt.stderr(),
-            "ruled: {name}: compressed; try {unpacker} {name} | ruled"
-        );
-        return Ok(2);
+fn show(rt: &HostRuntime, mut wanted: Wanted) -> io::Result<u8> {
+    if wanted.request.name.as_str() == "-" {
+        return show_input(rt, wanted, rt.stdin());
     }
-    match open(rt, name.as_str(), &mut request) {
-        Ok(file) => show_input(rt, &request, wanted.encoding, file),
-        Err(error) if error.kind() == ErrorKind::OutOfMemory => Err(error),
-        Err(error) => {
-            let name = Quoted(name.as_str());
-            let _ = writeln!(rt.stderr(), "ruled: {name}: {}", words_of(&error));
-            Ok(5)
-        }
+    if let Some(status) = tell_compressed(rt, wanted.request.name.as_str())? {
+        return Ok(status);
+    }
+    match open_first(rt, &mut wanted.request) {
+        Ok(file) => show_input(rt, wanted, file),
+        Err(error) => tell_unread(rt, wanted.request.name.as_str(), error),
     }
 }
 

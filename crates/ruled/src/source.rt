@@ -26,11 +26,16 @@ fn delimiter_of(word: &str) -> Option<u8> {
     }
 }
 
-/// The file that is named, where it isn't standard input.
-pub(crate) fn name_in<'m>(found: &'m ArgMatches) -> Option<&'m str> {
-    match found.get_str("file") {
-        Some("-") => None,
-        name => name,
+/// The files that are named, the first one first.
+pub(crate) fn files_in<'m>(found: &'m ArgMatches) -> &'m [&'m str] {
+    found.get_strs("file").unwrap_or(&[])
+}
+
+/// The first file that is named, or `-` for standard input.
+pub(crate) fn first_name<'m>(found: &'m ArgMatches) -> &'m str {
+    match files_in(found) {
+        [name, ..] => name,
+        [] => "-",
     }
 }
 
@@ -43,8 +48,8 @@ fn kind_asked(found: &ArgMatches) -> Result<Option<Kind>, &'static str> {
 }
 
 // What the extension of the file's name says of the input, if anything. A file of CSV may have any delimiter.
-fn source_in_name(found: &ArgMatches) -> Option<Source> {
-    let (_, extension) = name_in(found)?.rsplit_once('.')?;
+fn source_in_name(name: &str) -> Option<Source> {
+    let (_, extension) = name.rsplit_once('.')?;
     match Kind::by_name(extension)? {
         Kind::Rows(_) if extension == "csv" => Some(Source::Values {
             rules: RowRules::PLAIN,
@@ -85,6 +90,7 @@ fn database(selection: Selection) -> Source {
 fn source_without_selection(
     alloc: Global,
     found: &ArgMatches,
+    name: &str,
     asked: Option<Kind>,
 ) -> Result<Source, &'static str> {
     if let Some(delimiter) = found.get_str("delimiter") {
@@ -93,7 +99,7 @@ fn source_without_selection(
     Ok(match asked {
         Some(Kind::Rows(format)) => Source::Rows(format),
         Some(Kind::Database) => database(Selection::Tables),
-        None => source_in_name(found).unwrap_or(Source::Seen {
+        None => source_in_name(name).unwrap_or(Source::Seen {
             log: Log::Unknown,
             rules: RowRules::PLAIN,
             members: MemberRules::new(alloc),
@@ -187,10 +193,31 @@ fn json(source: Source) -> Result<Source, &'static str> {
     }
 }
 
-/// What the input is, but for the words of a query, a table or a path, or why it can't be.
-pub(crate) fn source_asked(alloc: Global, found: &ArgMatches) -> Result<Source, &'static str> {
+// Why rows of several files, of which one is this source, can't be one table.
+fn unjoined(found: &ArgMatches, source: &Source) -> Option<&'static str> {
+    if files_in(found).len() < 2 {
+        return None;
+    }
+    if found.get_one::<u32>("stream").is_some() {
+        return Some("several files can't be streamed");
+    }
+    if found.get_str("query").is_some() {
+        return Some("--query takes one file");
+    }
+    if matches!(source, Source::Database { .. }) {
+        return Some("a database can't be one of several files");
+    }
+    None
+}
+
+/// What the input of this name is, but for the words of a query, a table or a path, or why it can't be.
+pub(crate) fn source_asked(
+    alloc: Global,
+    found: &ArgMatches,
+    name: &str,
+) -> Result<Source, &'static str> {
     let asked = kind_asked(found)?;
-    let mut source = source_without_selection(alloc, found, asked)?;
+    let mut source = source_without_selection(alloc, found, name, asked)?;
     if is_of_table(found, asked)? {
         source = database(Selection::Tables);
     }
@@ -204,7 +231,10 @@ pub(crate) fn source_asked(alloc: Global, found: &ArgMatches) -> Result<Source, 
         source = json(source)?;
     }
     source.set_rules(rules_asked(found)?);
-    Ok(source)
+    match unjoined(found, &source) {
+        Some(told) => Err(told),
+        None => Ok(source),
+    }
 }
 
 /// Why the input can't be streamed, if it can't.
@@ -222,8 +252,8 @@ pub(crate) fn unstreamed(found: &ArgMatches, source: &Source) -> Option<&'static
     None
 }
 
-/// A copy of a text, where there is one.
-pub(crate) fn copy_of(alloc: Global, text: Option<&str>) -> Result<Option<String>, AllocError> {
+// A copy of a text, where there is one.
+fn copy_of(alloc: Global, text: Option<&str>) -> Result<Option<String>, AllocError> {
     match text {
         Some(text) => Ok(Some(String::from_str(alloc, text)?)),
         None => Ok(None),
@@ -231,10 +261,10 @@ pub(crate) fn copy_of(alloc: Global, text: Option<&str>) -> Result<Option<String
 }
 
 // The name of the table that has the rows of a file: that of the file, without its folder and its ending.
-fn table_named(file: Option<&str>) -> &str {
-    let Some(path) = file else {
+fn table_named(path: &str) -> &str {
+    if path == "-" {
         return "input";
-    };
+    }
     let name = path.rsplit_once('/').map_or(path, |(_, name)| name);
     match name.rsplit_once('.') {
         Some((stem, _)) if !stem.is_empty() => stem,
@@ -242,25 +272,29 @@ fn table_named(file: Option<&str>) -> &str {
     }
 }
 
-// A query of what is known so of its rows, of JSON at this path. NULL has this text. Names above rows are those of the columns that it reads.
+// A query of what is known so of its rows, of JSON at the path of these rules, whose text for null is that for NULL. Names above rows are those of the columns that it reads.
 fn query_of(
     alloc: Global,
     found: &ArgMatches,
     text: String,
     known: Option<Known>,
-    path: Vec<String>,
-    null: String,
+    members: MemberRules,
     view: &mut Options,
 ) -> Result<Query, AllocError> {
+    let MemberRules {
+        path,
+        null,
+        is_flat,
+    } = members;
     Ok(Query {
         text,
         known,
         members: MemberRules {
             path,
             null: String::new(alloc),
-            is_flat: found.get_flag("flatten"),
+            is_flat,
         },
-        table: String::from_str(alloc, table_named(name_in(found)))?,
+        table: String::from_str(alloc, table_named(first_name(found)))?,
         names: mem::replace(&mut view.names, Vec::new(alloc)),
         is_padded: mem::replace(&mut view.is_padded, false),
         steps: u64::from(found.get_one::<u32>("limit-steps").unwrap_or(STEPS)),
@@ -268,8 +302,8 @@ fn query_of(
     })
 }
 
-// The source, with rules for its members if it is JSON.
-fn with_members(source: Source, members: MemberRules) -> Source {
+/// The source, with rules for its members if it is JSON.
+pub(crate) fn with_members(source: Source, members: MemberRules) -> Source {
     match source {
         Source::Rows(format @ (Format::Json | Format::JsonLines)) => {
             Source::Members { format, members }
@@ -283,29 +317,23 @@ fn with_members(source: Source, members: MemberRules) -> Source {
     }
 }
 
-/// The source, with what is asked of it. The rows are those of the member at this path, if it has names.
+/// The source, with what is asked of it. If it is JSON, its rows are as these rules say.
 pub(crate) fn selected(
     alloc: Global,
     found: &ArgMatches,
     source: Source,
-    path: Vec<String>,
+    members: MemberRules,
     view: &mut Options,
 ) -> Result<Source, AllocError> {
-    let null = String::from_str(alloc, found.get_str("null").unwrap_or(""))?;
     if let Some(text) = copy_of(alloc, found.get_str("query"))? {
-        let query = query_of(alloc, found, text, source.known_rows(), path, null, view)?;
+        let query = query_of(alloc, found, text, source.known_rows(), members, view)?;
         return Ok(database(Selection::Query(query)));
     }
     match copy_of(alloc, found.get_str("table"))? {
-        Some(name) => Ok(database(Selection::Table { name, null })),
-        None => {
-            let is_flat = found.get_flag("flatten");
-            let members = MemberRules {
-                path,
-                null,
-                is_flat,
-            };
-            Ok(with_members(source, members))
+        Some(name) => {
+            let null = members.null;
+            Ok(database(Selection::Table { name, null }))
         }
+        None => Ok(with_members(source, members)),
     }
 }

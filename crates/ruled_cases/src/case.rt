@@ -1,8 +1,9 @@
 //! Cases of a file.
 
-use crate::words::{meant, push_bytes, push_input, set_bytes, set_option, split_times};
+use crate::words::{meant, push_bytes, push_input, set_bytes, set_option, source_of, split_times};
 use ruled_io::{
-    Decoded, Encoding, Format, Log, Output, Pieces, Request, RowRules, Rows, Source, run,
+    Decoded, Encoding, Format, FurtherInput, Log, Output, Pieces, Request, RowRules, Rows, Source,
+    run,
 };
 use ruled_table::{Bounds, Breaking, Look, Options, Overflow, Vertical};
 use std::alloc::{AllocError, Global};
@@ -74,7 +75,9 @@ impl Case {
         Ok(Case {
             name,
             request: Request {
+                name: "first.csv".to_string(alloc)?,
                 source: Source::Rows(Format::separated(b',', RowRules::PLAIN)),
+                further: Vec::new(alloc),
                 rows: Rows::AtOnce,
                 view,
             },
@@ -117,10 +120,11 @@ impl Case {
                 None => set_option(alloc, &mut self.request, &mut self.rules, text),
             },
             ">" => {
-                push_input(&mut self.input, text)?;
+                push_input(self.bytes(), text)?;
                 Ok(true)
             }
-            ">x" => push_bytes(&mut self.input, text),
+            ">+" => self.add_input(alloc, text),
+            ">x" => push_bytes(self.bytes(), text),
             ">@" => set_bytes(alloc, &mut self.input, text),
             ">^" => {
                 self.input.extend_from_slice(&self.above)?;
@@ -139,6 +143,29 @@ impl Case {
         self.push_shown(text)?;
         self.shown.push('\n')?;
         Ok(true)
+    }
+
+    // Adds a further input of this name, whose ending is the word for its source.
+    fn add_input(&mut self, alloc: Global, name: &str) -> Result<bool, AllocError> {
+        let (_, word) = name.rsplit_once('.').unwrap_or((name, ""));
+        let Some(mut source) = source_of(alloc, word) else {
+            return Ok(false);
+        };
+        source.set_rules(self.rules);
+        self.request.further.push(FurtherInput {
+            name: meant(alloc, name)?,
+            source,
+            bytes: Vec::new(alloc),
+        })?;
+        Ok(true)
+    }
+
+    // The bytes that lines are of: those of the last further input, if there is one.
+    fn bytes(&mut self) -> &mut Vec<u8> {
+        match self.request.further.last_mut() {
+            Some(further) => &mut further.bytes,
+            None => &mut self.input,
+        }
     }
 
     // Appends a text so many times, to the input or to what is shown.

@@ -9,8 +9,8 @@ use ruled_table::{Look, Options, Overflow, Sort, Vertical};
 use std::alloc::{AllocError, Global};
 use std::mem;
 
-// The source that a word names: that of a format, or the one that the input shows.
-fn source_of(alloc: Global, word: &str) -> Option<Source> {
+/// The source that a word names: that of a format, or the one that the input shows.
+pub(crate) fn source_of(alloc: Global, word: &str) -> Option<Source> {
     match word {
         "seen" => {
             return Some(Source::Seen {
@@ -262,7 +262,7 @@ fn set_null(alloc: Global, source: &mut Source, text: String) {
     }
 }
 
-/// Sets an option, and returns whether there is one of this name with this value.
+/// Sets an option, and returns whether there is one of this name with this value. A text for null is that of the last input.
 pub(crate) fn set_option(
     alloc: Global,
     request: &mut Request,
@@ -288,7 +288,11 @@ pub(crate) fn set_option(
         return Ok(true);
     }
     if name == "null" {
-        set_null(alloc, &mut request.source, meant(alloc, value)?);
+        let source = match request.further.last_mut() {
+            Some(further) => &mut further.source,
+            None => &mut request.source,
+        };
+        set_null(alloc, source, meant(alloc, value)?);
         return Ok(true);
     }
     if let Some(source) = source_set(alloc, request.source.log(), name, value)? {

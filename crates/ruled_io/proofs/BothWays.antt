@@ -29,6 +29,7 @@ use Rattle.ruled_io.specs.Input.{format_fault, input_fault, rows_in, rows_of}
 use Rattle.ruled_io.specs.Laws.{AllAreFirst, AtOnceShowsAsStreams, BothWaysFindOneFault, IsStreamable, ShowsEachRow, StreamsShowAsAtOnce}
 use Rattle.ruled_io.specs.Reading.{sound_rows, wrong_in}
 use Rattle.ruled_io.specs.Requests.{format_told, holds_database, members_of, rows_needed}
+use Rattle.ruled_io.specs.Further.{fault_from, further_fault, joined, joined_rows, rows_held, rows_of_all}
 use Rattle.ruled_io.specs.Runs.{AreRows, AreRowsAs}
 use Rattle.ruled_io.specs.Stream.{first_count, first_plan, first_wrong, line_rules, shown_text, streamed_count, streamed_fault, streamed_format, streamed_rows, streamed_wrong}
 use Rattle.ruled_io.specs.declared.fault.InputFault.TheVariants.{Stream}
@@ -37,8 +38,10 @@ use Rattle.ruled_io.specs.declared.fault.StreamedFault.TheVariants.{Database}
 use Rattle.ruled_io.specs.declared.formats.Format.{Format}
 use Rattle.ruled_io.specs.declared.formats.Format.TheVariants.{Separated, Json, JsonLines}
 use Rattle.ruled_io.specs.declared.formats.Known.{Known}
+use Rattle.ruled_io.specs.declared.request.FurtherInput.{FurtherInput}
 use Rattle.ruled_io.specs.declared.request.Request.{Request}
 use Rattle.ruled_io.proofs.Inputs.{unmapped}
+use Rattle.ruled_io.proofs.Joined.{joined-alone}
 use Rattle.ruled_io.proofs.SameLines.{fine-at-once, rows-at-once, same-fault}
 
 -- ---- the rows of a format
@@ -92,9 +95,6 @@ module _ (options : Options) (each : ShowsEachRow options) where
   same-arranged rows =
       ap (λ (rs : List (List Text)). numbered options (sorted_by_word options options.sort (even options rs))) (none-named (map string_bytes options.names.items) rows (ap (map string_bytes) each.names))
       ∙ rw (each.padded, each.unsorted, each.numbered) refl
-
-  all-needed : rows_needed options ≡ None
-  all-needed = rw (each.padded, each.unsorted, each.head) refl
 
   -- no field has a colour, whether its row is known or not
   no-tint : options.is_colored ≡ true → (place : Option ℕ) (row : Option (List Text)) → option_and_then (λ fields. field_tint options place (drawn_at fields place)) row ≡ None
@@ -167,6 +167,16 @@ module _ (request : Request) (count : ℕ) (bytes : List ℕ) (all : AllAreFirst
   abbrev first : ℕ
   first = streamed_count request count bytes
 
+  -- all of its rows are needed, and are those of the table
+  all-needed : rows_needed request ≡ None
+  all-needed = rw (all.alone, all.options.padded, all.options.unsorted, all.options.head) refl
+
+  alone : (rows : List (List Text)) → joined request.view request.further.items rows ≡ rows
+  alone rows = ap (λ (inputs : List FurtherInput). joined_rows request.view (rows ∷ map rows_held inputs)) all.alone ∙ joined-alone request.view rows
+
+  fine-alone : (rows : List (List Text)) → further_fault request.view request.further.items rows ≡ None
+  fine-alone rows = ap (fault_from request.view (rows_of_all request.further.items rows) 0) all.alone
+
   -- both ways read it in one format
   format-fault : input_fault None members known bytes ≡ format_fault members format content
   format-fault = ap (λ (f : Format). format_fault members f (content_of f bytes)) all.format
@@ -215,14 +225,22 @@ streams-as-at-once request count bytes text all (right, none, is) =
     let short : length rows ≤ streamed_count request count bytes = few request count bytes all rows same in
     let fine : first_wrong request.view (streamed_count request count bytes) rows None ≡ None = sym (fault-is request count bytes all none rows same) ∙ right in (
       rows,
-      subst (λ (limit : Option ℕ). AreRows limit request.source bytes rows) (sym (all-needed request.view all.options)) are,
+      (
+        rows,
+        subst (λ (limit : Option ℕ). AreRows limit request.source bytes rows) (sym (all-needed request count bytes all)) are,
+        fine-alone request count bytes all rows,
+        sym (alone request count bytes all rows),
+      ),
       table-fine request.view all.options (streamed_count request count bytes) rows short fine,
       is ∙ text-is request count bytes all none rows same ∙ one-text request.view all.options (streamed_count request count bytes) rows short fine,
     )
 
 pub at-once-as-streams : AtOnceShowsAsStreams
-at-once-as-streams request count bytes text all can (rows, needed, right, is) =
-    let are : AreRows None request.source bytes rows = subst (λ (limit : Option ℕ). AreRows limit request.source bytes rows) (all-needed request.view all.options) needed in
+at-once-as-streams request count bytes text all can (rows, (own, needed, others, joins), right, is) =
+    let owned : own ≡ rows = sym (joins ∙ alone request count bytes all own) in
+    let are : AreRows None request.source bytes rows =
+    subst (λ (rs : List (List Text)). AreRows None request.source bytes rs) owned
+    (subst (λ (limit : Option ℕ). AreRows limit request.source bytes own) (all-needed request count bytes all) needed) in
     let (fine, same) = subst (λ (holds : Bool). AreRowsAs None holds request.source bytes rows) can.0 are in
     let none : streamed_wrong request count bytes ≡ None = wrong-is request count bytes all can ∙ fine in
     let short : length rows ≤ streamed_count request count bytes = few request count bytes all rows same in

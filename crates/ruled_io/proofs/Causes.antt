@@ -23,10 +23,11 @@ use Rattle.ruled_table.specs.declared.fault.ViewFault.{ViewFault}
 use Rattle.ruled_io.specs.Databases.{LacksAnswer, LacksAnswerOf, LacksQueried, LacksSelected, LacksStored, LacksTableOf, members_in, table_of}
 use Rattle.ruled_io.specs.Faults.{IsOfRead, Tells, but_line_in, fault_of_database, fault_of_json, fault_of_rows, fault_of_sql, is_early, is_memory, is_of_write, is_read}
 use Rattle.ruled_io.specs.Formats.{content_of, format_in}
+use Rattle.ruled_io.specs.Further.{further_fault}
 use Rattle.ruled_io.specs.Input.{format_fault, input_fault, rows_in}
 use Rattle.ruled_io.specs.Output.{failure_in, fault_written, write_part, Begins}
 use Rattle.ruled_io.specs.Requests.{format_told, hides_rows, holds_database, inner_place, known_in, log_of, members_of, rows_needed, selection_of}
-use Rattle.ruled_io.specs.Runs.{AreAsked, AreRows, AreRowsAs, CausedAtOnce, LacksInput, LacksRows, LacksRowsAs, RemarksAll, ShowsAll, remarks_on}
+use Rattle.ruled_io.specs.Runs.{AreAsked, AreJoined, AreRows, AreRowsAs, CausedAtOnce, LacksInput, LacksInputs, LacksJoined, LacksRows, LacksRowsAs, RemarksAll, ShowsAll, remarks_on}
 use Rattle.ruled_io.specs.Steps.{Draws}
 use Rattle.ruled_io.specs.declared.fault.InputFault.{InputFault}
 use Rattle.ruled_io.specs.declared.fault.InputFault.TheVariants as input
@@ -120,6 +121,7 @@ is_of_rows (input.Sql fault) = false
 is_of_rows (input.Database fault) = false
 is_of_rows input.Log = false
 is_of_rows (input.Stream fault) = false
+is_of_rows (input.Further number fault) = false
 is_of_rows (input.Column name) = false
 is_of_rows input.Sort = false
 is_of_rows input.Totals = false
@@ -168,6 +170,7 @@ module _ (query : Query) (known : Known) (bytes : List ℕ) (is : known_in query
   of_table (input.Database fault) tells = absurd (false≢true (of-input (members_in query) known bytes (input.Database fault) (tells refl)))
   of_table input.Log tells = absurd (false≢true (of-input (members_in query) known bytes input.Log (tells refl)))
   of_table (input.Stream fault) tells = absurd (false≢true (of-input (members_in query) known bytes (input.Stream fault) (tells refl)))
+  of_table (input.Further number fault) tells = absurd (false≢true (of-input (members_in query) known bytes (input.Further number fault) (tells refl)))
   of_table (input.Column name) tells = absurd (false≢true (of-input (members_in query) known bytes (input.Column name) (tells refl)))
   of_table input.Sort tells = absurd (false≢true (of-input (members_in query) known bytes input.Sort (tells refl)))
   of_table input.Totals tells = absurd (false≢true (of-input (members_in query) known bytes input.Totals (tells refl)))
@@ -196,6 +199,7 @@ of_selection source bytes (Err (input.Sql fault)) shown lacks = (shown, lacks)
 of_selection source bytes (Err (input.Database fault)) shown lacks = (shown, lacks)
 of_selection source bytes (Err input.Log) shown lacks = absurd lacks
 of_selection source bytes (Err (input.Stream fault)) shown lacks = absurd lacks
+of_selection source bytes (Err (input.Further number fault)) shown lacks = absurd lacks
 of_selection source bytes (Err (input.Column name)) shown lacks = absurd lacks
 of_selection source bytes (Err input.Sort) shown lacks = absurd lacks
 of_selection source bytes (Err input.Totals) shown lacks = absurd lacks
@@ -248,15 +252,39 @@ pub read-lacks : (limit : Option ℕ) (source : Source) (bytes : List ℕ) (foun
 read-lacks limit source bytes found (inl memory) = subst (LacksInput limit source bytes) (sym memory) (memory-lacks limit (holds_database source bytes) source bytes)
 read-lacks limit source bytes found (inr read) = let (cause, is) = of-read found read in subst (LacksInput limit source bytes) (sym is) tt
 
+-- ---- several inputs
+
+-- the first one lacks its rows
+pub first-lacks : (request : Request) (bytes : List ℕ) (fault : RunFault) → LacksInput (rows_needed request) request.source bytes fault → LacksInputs request bytes fault
+first-lacks request bytes (Input fault) lacks = inl lacks
+first-lacks request bytes (Read fault) lacks = tt
+first-lacks request bytes Closed lacks = absurd lacks
+first-lacks request bytes Write lacks = absurd lacks
+
+-- a further one adds none, or memory is refused
+pub further-lacks : (request : Request) (bytes : List ℕ) (first : List (List Text)) (fault : InputFault) → (is_memory fault ≡ false → further_fault request.view request.further.items first ≡ Some (but_line_in fault)) → AreRows (rows_needed request) request.source bytes first
+    → LacksJoined request bytes fault
+further-lacks request bytes first input.Memory tells are = inl (memory-lacks (rows_needed request) (holds_database request.source bytes) request.source bytes)
+further-lacks request bytes first (input.Rows fault) tells are = inr (first, are, tells refl)
+further-lacks request bytes first (input.Json fault) tells are = inr (first, are, tells refl)
+further-lacks request bytes first (input.Sql fault) tells are = inr (first, are, tells refl)
+further-lacks request bytes first (input.Database fault) tells are = inr (first, are, tells refl)
+further-lacks request bytes first input.Log tells are = inr (first, are, tells refl)
+further-lacks request bytes first (input.Stream fault) tells are = inr (first, are, tells refl)
+further-lacks request bytes first (input.Further number fault) tells are = inr (first, are, tells refl)
+further-lacks request bytes first (input.Column name) tells are = inr (first, are, tells refl)
+further-lacks request bytes first input.Sort tells are = inr (first, are, tells refl)
+further-lacks request bytes first input.Totals tells are = inr (first, are, tells refl)
+
 -- ---- a run at once
 
-pub lacks-caused : (request : Request) (bytes : List ℕ) (old : Option (List ℕ)) (fault : RunFault) → LacksInput (rows_needed request.view) request.source bytes fault → CausedAtOnce request bytes fault old old
+pub lacks-caused : (request : Request) (bytes : List ℕ) (old : Option (List ℕ)) (fault : RunFault) → LacksInputs request bytes fault → CausedAtOnce request bytes fault old old
 lacks-caused request bytes old (Input fault) lacks = (λ soft. (inl lacks, Keeps-refl old), λ memory. inl (Keeps-refl old))
 lacks-caused request bytes old (Read fault) lacks = Keeps-refl old
 lacks-caused request bytes old Closed lacks = absurd lacks
 lacks-caused request bytes old Write lacks = absurd lacks
 
-module _ (request : Request) (bytes : List ℕ) (rows : List (List Text)) (are : AreRows (rows_needed request.view) request.source bytes rows) where
+module _ (request : Request) (bytes : List ℕ) (rows : List (List Text)) (are : AreJoined request bytes rows) where
   -- their table isn't written
   pub draws-caused : (X : Type 0) (old new : Option (List ℕ)) (fault : RunFault) → Draws (table_text request.view rows) (table_fault request.view rows) old new {X = X} (Err fault) → CausedAtOnce request bytes fault old new
   draws-caused X old new (Input fault) (soft, memory) = (λ found. (inr (rows, are, (soft found).0), (soft found).1), λ lost. inr (rows, are, memory lost))
@@ -298,24 +326,24 @@ early-handed X text wrong old new found (Ok x) draws is = absurd is
 early-handed X text wrong old new found (Err fault) draws is = λ early. draws-early X text wrong old new found draws (ap is_early (sym is) ∙ early)
 
 -- the table is written, and then shown
-module _ {X : Type 0} (given : Option (List ℕ)) (request : Request) (rows : List (List Text)) (old mid new : Option (List ℕ)) (result : Result X RunFault) (are : IfSome given (λ bytes. AreRows (rows_needed request.view) request.source bytes rows))
+module _ {X : Type 0} (given : Option (List ℕ)) (request : Request) (rows : List (List Text)) (old mid new : Option (List ℕ)) (result : Result X RunFault) (are : IfSome given (λ bytes. AreJoined request bytes rows))
     (drawn : (table_fault request.view rows ≡ None) × Appends old mid (table_text request.view rows)) (kept : Keeps mid new) where
   pub shown-drawn : OnOk result (IfSome given (λ bytes. (text : Text) × ShowsAll request bytes text × Appends old new text))
-  shown-drawn = on-ok result (if-so {P = λ bytes. AreRows (rows_needed request.view) request.source bytes rows} given are (λ bytes these. drawn-shown request bytes rows these old mid new drawn.0 drawn.1 kept))
+  shown-drawn = on-ok result (if-so {P = λ bytes. AreJoined request bytes rows} given are (λ bytes these. drawn-shown request bytes rows these old mid new drawn.0 drawn.1 kept))
 
   pub after-drawn : ((fault : RunFault) → result ≡ Err fault → is_of_write fault ≡ true) → IfErr result (λ fault. IfSome given (λ bytes. CausedAtOnce request bytes fault old new))
-  after-drawn failed = each-err result (λ fault is. if-so {P = λ bytes. AreRows (rows_needed request.view) request.source bytes rows} given are (λ bytes these. unshown-caused request bytes rows these old mid new fault (failed fault is) drawn.1 kept))
+  after-drawn failed = each-err result (λ fault is. if-so {P = λ bytes. AreJoined request bytes rows} given are (λ bytes these. unshown-caused request bytes rows these old mid new fault (failed fault is) drawn.1 kept))
 
 -- this is remarked
 abbrev remarks-of : ℕ → Option ℕ → Option ℕ → Remarks
 remarks-of padded wide inner = record { padded = padded; wide = wide; inner = inner }
 
-pub remarked-by : (given : Option (List ℕ)) (request : Request) (rows : List (List Text)) (padded : ℕ) (wide inner : Option ℕ) (result : Result Remarks RunFault) → IfSome given (λ bytes. AreRows (rows_needed request.view) request.source bytes rows)
+pub remarked-by : (given : Option (List ℕ)) (request : Request) (rows : List (List Text)) (padded : ℕ) (wide inner : Option ℕ) (result : Result Remarks RunFault) → IfSome given (λ bytes. AreJoined request bytes rows)
     → padded ≡ padded_rows request.view rows → wide ≡ table_excess request.view rows → inner ≡ inner_place request.source rows → IfOk result (λ told. told ≡ remarks-of padded wide inner) → IfOk result (λ remarks. IfSome given (λ bytes. RemarksAll request bytes remarks))
 remarked-by given request rows padded wide inner (Ok told) are pads exceeds has same =
     let is : told ≡ remarks_on request rows = same ∙ ap (λ (n : ℕ). remarks-of n wide inner) pads ∙ ap (λ (w : Option ℕ). remarks-of (padded_rows request.view rows) w inner) exceeds
     ∙ ap (remarks-of (padded_rows request.view rows) (table_excess request.view rows)) has in
-    if-so {P = λ bytes. AreRows (rows_needed request.view) request.source bytes rows} given are (λ bytes these. (rows, these, is))
+    if-so {P = λ bytes. AreJoined request bytes rows} given are (λ bytes these. (rows, these, is))
 remarked-by given request rows padded wide inner (Err fault) are pads exceeds has same = tt
 
 -- what a result says of a write, its fault does

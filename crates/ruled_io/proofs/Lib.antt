@@ -5,6 +5,7 @@ mod Decodings
 mod Encodings
 mod Written
 mod Fronts
+mod Joined
 mod Inputs
 mod Readers
 mod SameLines

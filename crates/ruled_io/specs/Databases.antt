@@ -79,6 +79,7 @@ LacksSelected selection bytes (input.Sql fault) = LacksAnswer selection bytes fa
 LacksSelected selection bytes (input.Database fault) = LacksStored selection bytes fault
 LacksSelected selection bytes input.Log = ⊥
 LacksSelected selection bytes (input.Stream fault) = ⊥
+LacksSelected selection bytes (input.Further number fault) = ⊥
 LacksSelected selection bytes (input.Column name) = ⊥
 LacksSelected selection bytes input.Sort = ⊥
 LacksSelected selection bytes input.Totals = ⊥

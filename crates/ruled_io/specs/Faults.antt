@@ -14,8 +14,10 @@ use Rattle.ruled_sql.specs.declared.fault.SqlFault.TheVariants as sql
 use Rattle.ruled_database.specs.declared.fault.TableFault.TheVariants as table
 use Rattle.ruled_table.specs.declared.fault.ViewFault.{ViewFault}
 use Rattle.ruled_table.specs.declared.fault.ViewFault.TheVariants as view
+use Rattle.ruled_io.specs.declared.fault.FurtherFault.{FurtherFault}
+use Rattle.ruled_io.specs.declared.fault.FurtherFault.TheVariants as further
 use Rattle.ruled_io.specs.declared.fault.InputFault.{InputFault}
-use Rattle.ruled_io.specs.declared.fault.InputFault.TheVariants.{Rows, Json, Sql, Database, Log, Stream, Column, Sort, Totals, Memory}
+use Rattle.ruled_io.specs.declared.fault.InputFault.TheVariants.{Rows, Json, Sql, Database, Log, Stream, Further, Column, Sort, Totals, Memory}
 use Rattle.ruled_io.specs.declared.fault.ReadFault.{ReadFault}
 use Rattle.ruled_io.specs.declared.fault.ReadFault.TheVariants as read
 use Rattle.ruled_io.specs.declared.fault.RunFault.{RunFault}
@@ -34,6 +36,7 @@ status_of_input (Sql fault) = 2
 status_of_input (Database fault) = 2
 status_of_input Log = 2
 status_of_input (Stream fault) = 2
+status_of_input (Further input fault) = 2
 status_of_input (Column name) = 2
 status_of_input Sort = 2
 status_of_input Totals = 3
@@ -62,6 +65,7 @@ is_memory (Sql fault) = false
 is_memory (Database fault) = false
 is_memory Log = false
 is_memory (Stream fault) = false
+is_memory (Further input fault) = false
 is_memory (Column name) = false
 is_memory Sort = false
 is_memory Totals = false
@@ -109,6 +113,13 @@ IsOfRead fault = (fault ≡ Input Memory) ⊎ (is_read fault ≡ true)
 -- ---- what they tell
 
 -- a fault, but for the line on which its row begins, or on which it is seen
+abbrev pub but_line_further : FurtherFault → FurtherFault
+but_line_further (further.Rows fault) = further.Rows (csv.but_line fault)
+but_line_further (further.Json fault) = further.Json (json.but_line fault)
+but_line_further further.Database = further.Database
+but_line_further further.Header = further.Header
+but_line_further further.Length = further.Length
+
 abbrev pub but_line_in : InputFault → InputFault
 but_line_in (Rows fault) = Rows (csv.but_line fault)
 but_line_in (Json fault) = Json (json.but_line fault)
@@ -116,6 +127,7 @@ but_line_in (Sql fault) = Sql fault
 but_line_in (Database fault) = Database fault
 but_line_in Log = Log
 but_line_in (Stream fault) = Stream fault
+but_line_in (Further input fault) = Further input (but_line_further fault)
 but_line_in (Column name) = Column name
 but_line_in Sort = Sort
 but_line_in Totals = Totals
@@ -189,6 +201,20 @@ fault_of_view (view.Column name) = Column name
 fault_of_view view.Sort = Sort
 fault_of_view view.Totals = Totals
 fault_of_view view.Memory = Memory
+
+-- the fault of the further input of this number
+abbrev pub of_further : ℕ → InputFault → InputFault
+of_further input (Rows fault) = Further input (further.Rows fault)
+of_further input (Json fault) = Further input (further.Json fault)
+of_further input (Sql fault) = Sql fault
+of_further input (Database fault) = Database fault
+of_further input Log = Log
+of_further input (Stream fault) = Stream fault
+of_further input (Further number fault) = Further number fault
+of_further input (Column name) = Column name
+of_further input Sort = Sort
+of_further input Totals = Totals
+of_further input Memory = Memory
 
 abbrev pub of_view : ViewFault → RunFault
 of_view fault = Input (fault_of_view fault)

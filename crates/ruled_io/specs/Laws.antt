@@ -32,6 +32,8 @@ pub record ShowsEachRow (options : Options) : Type 0 where
 
 module _ (request : Request) (count : ℕ) (bytes : List ℕ) where
   pub record AllAreFirst : Type 0 where
+    -- there are no further inputs
+    pub alone : request.further.items ≡ []
     pub options : ShowsEachRow request.view
     -- no more rows than the first so many
     pub rows : length (rows_in None (members_of request.source) (format_told request.source) bytes) ≤ streamed_count request count bytes

@@ -3,6 +3,7 @@ pub mod Decodings
 pub mod Encodings
 pub mod Faults
 pub mod Formats
+pub mod Further
 pub mod Input
 pub mod Laws
 pub mod Names

@@ -1,5 +1,5 @@
 -- What is asked of a run.
-use Rattle.std.specs.Prelude.{ℕ, ◌-◌, ◌==◌, ◌&&◌, ◌||◌, ◌∷◌, codes, is_some, length, max, nat_eq, position, Bool, true, false, List, [], Option, Some, None, option_map, if◌then◌else◌}
+use Rattle.std.specs.Prelude.{ℕ, ◌-◌, ◌==◌, ◌&&◌, ◌||◌, ◌∷◌, codes, is_some, length, max, nat_eq, not, position, Bool, true, false, List, [], Option, Some, None, option_map, if◌then◌else◌}
 use Rattle.std.specs.List.{starts_with}
 use Rattle.pg_layout.specs.Text.{Text}
 use Rattle.ruled_csv.specs.declared.dialect.RowRules.{RowRules}
@@ -7,13 +7,13 @@ use Rattle.ruled_database.specs.Files.{keeps_log}
 use Rattle.ruled_io.specs.Formats as formats
 use Rattle.ruled_json.specs.Rows.{Rules, plain_rules, rules_of}
 use Rattle.ruled_table.specs.Shown.{limit_of}
-use Rattle.ruled_table.specs.declared.options.Options.{Options}
 use Rattle.ruled_io.specs.declared.formats.Format.{Format}
 use Rattle.ruled_io.specs.declared.formats.Format.TheVariants as format
 use Rattle.ruled_io.specs.declared.formats.Known.{Known}
 use Rattle.ruled_io.specs.declared.formats.Known.TheVariants as known
 use Rattle.ruled_io.specs.declared.request.Log.{Log}
 use Rattle.ruled_io.specs.declared.request.Log.TheVariants.{Empty, Filled, Unknown}
+use Rattle.ruled_io.specs.declared.request.Request.{Request}
 use Rattle.ruled_io.specs.declared.request.Selection.{Selection}
 use Rattle.ruled_io.specs.declared.request.Source.{Source}
 use Rattle.ruled_io.specs.declared.request.Selection.TheVariants.{Query as Select, Table, Tables}
@@ -100,17 +100,30 @@ with_rules rules (Values old) = Values rules
 with_rules rules (Seen log old members) = Seen log rules members
 with_rules rules (Database selection log) = Database selection log
 
+-- its rows may have more or fewer fields than row 0
+abbrev pub ragged_format : Format → Bool
+ragged_format (format.Separated dialect) = dialect.rows.is_ragged
+ragged_format format.Json = false
+ragged_format format.JsonLines = false
+
+abbrev pub is_ragged : Source → Bool
+is_ragged (Rows format) = ragged_format format
+is_ragged (Members format members) = false
+is_ragged (Values rules) = rules.is_ragged
+is_ragged (Seen log rules members) = rules.is_ragged
+is_ragged (Database selection log) = false
+
 -- rows of a database may stand in a log beside its file
 abbrev pub hides_rows : Log → List ℕ → Bool
 hides_rows Empty bytes = false
 hides_rows Filled bytes = true
 hides_rows Unknown bytes = formats.is_database bytes && keeps_log bytes
 
--- so many rows are needed of an input, if not all, as when they are sorted: those that are shown, and row 0, which names the columns, unless names are given
-abbrev pub rows_needed : Options → Option ℕ
-rows_needed options =
-    if options.is_padded || is_some options.sort then None
-    else option_map (λ limit. if length options.names.items == 0 then max 1 limit else limit - 1) (limit_of options)
+-- so many rows are needed of the first input, if not all, as when they are sorted or others are below them: those that are shown, and row 0, which names the columns, unless names are given
+abbrev pub rows_needed : Request → Option ℕ
+rows_needed request =
+    if not (length request.further.items == 0) || (request.view.is_padded || is_some request.view.sort) then None
+    else option_map (λ limit. if length request.view.names.items == 0 then max 1 limit else limit - 1) (limit_of request.view)
 
 -- ---- records within a record
 

@@ -6,6 +6,7 @@ use Rattle.ruled_table.specs.Arranged.{padded_rows}
 use Rattle.ruled_table.specs.View.{table_excess, table_fault, table_text}
 use Rattle.ruled_io.specs.Databases.{AreSelected, LacksAnswer, LacksQueried, LacksStored}
 use Rattle.ruled_io.specs.Faults.{but_line_in, fault_of_view, is_memory}
+use Rattle.ruled_io.specs.Further.{further_fault, joined}
 use Rattle.ruled_io.specs.Input.{input_fault, rows_in}
 use Rattle.ruled_io.specs.Requests.{format_told, hides_rows, holds_database, inner_place, log_of, members_of, rows_needed, selection_of}
 use Rattle.ruled_io.specs.Stream.{StopsStream, streamed_fault, streamed_remarks, streamed_text, streamed_wrong}
@@ -41,6 +42,7 @@ LacksRowsAs limit false source bytes fault = is_memory fault ≡ false → input
 LacksRowsAs limit true source bytes (input.Rows fault) = (hides_rows (log_of source) bytes ≡ false) × LacksQueried (selection_of source) bytes (input.Rows fault)
 LacksRowsAs limit true source bytes (input.Json fault) = (hides_rows (log_of source) bytes ≡ false) × LacksQueried (selection_of source) bytes (input.Json fault)
 LacksRowsAs limit true source bytes (input.Stream fault) = ⊥
+LacksRowsAs limit true source bytes (input.Further number fault) = ⊥
 LacksRowsAs limit true source bytes (input.Sql fault) = (hides_rows (log_of source) bytes ≡ false) × LacksAnswer (selection_of source) bytes fault
 LacksRowsAs limit true source bytes (input.Database fault) = (hides_rows (log_of source) bytes ≡ false) × LacksStored (selection_of source) bytes fault
 LacksRowsAs limit true source bytes input.Log = hides_rows (log_of source) bytes ≡ true
@@ -59,24 +61,44 @@ LacksInput limit source bytes (Read fault) = ⊤
 LacksInput limit source bytes Closed = ⊥
 LacksInput limit source bytes Write = ⊥
 
+-- ---- the rows of all inputs of a request
+
+-- those of the first one, and those of the further ones below them
+abbrev pub AreJoined : Request → List ℕ → List (List Text) → Type 0
+AreJoined request bytes rows =
+    (first : List (List Text)) × AreRows (rows_needed request) request.source bytes first × (further_fault request.view request.further.items first ≡ None) × (rows ≡ joined request.view request.further.items first)
+
+-- why there are none: those of the first one lack, or else a further one adds none
+abbrev pub LacksJoined : Request → List ℕ → InputFault → Type 0
+LacksJoined request bytes fault =
+    LacksRows (rows_needed request) request.source bytes fault
+    ⊎ ((first : List (List Text)) × AreRows (rows_needed request) request.source bytes first × (further_fault request.view request.further.items first ≡ Some (but_line_in fault)))
+
+-- or the first one can't be read
+abbrev pub LacksInputs : Request → List ℕ → RunFault → Type 0
+LacksInputs request bytes (Input fault) = LacksJoined request bytes fault
+LacksInputs request bytes (Read fault) = ⊤
+LacksInputs request bytes Closed = ⊥
+LacksInputs request bytes Write = ⊥
+
 -- ---- what is shown of them at once
 
 -- the text is their picture
 abbrev pub ShowsAll : Request → List ℕ → Text → Type 0
-ShowsAll request bytes text = (rows : List (List Text)) × AreRows (rows_needed request.view) request.source bytes rows × (table_fault request.view rows ≡ None) × (text ≡ table_text request.view rows)
+ShowsAll request bytes text = (rows : List (List Text)) × AreJoined request bytes rows × (table_fault request.view rows ≡ None) × (text ≡ table_text request.view rows)
 
 -- there are no rows, or they have no table
 abbrev pub CausedAll : Request → List ℕ → InputFault → Type 0
 CausedAll request bytes fault =
-    LacksRows (rows_needed request.view) request.source bytes fault
-    ⊎ ((rows : List (List Text)) × AreRows (rows_needed request.view) request.source bytes rows × (option_map fault_of_view (table_fault request.view rows) ≡ Some fault))
+    LacksJoined request bytes fault
+    ⊎ ((rows : List (List Text)) × AreJoined request bytes rows × (option_map fault_of_view (table_fault request.view rows) ≡ Some fault))
 
 -- what is remarked on rows: how many are padded, how wide the lines of their table are, if that is more than the width that is set, and where a record has others
 abbrev pub remarks_on : Request → List (List Text) → Remarks
 remarks_on request rows = record { padded = padded_rows request.view rows; wide = table_excess request.view rows; inner = inner_place request.source rows }
 
 abbrev pub RemarksAll : Request → List ℕ → Remarks → Type 0
-RemarksAll request bytes remarks = (rows : List (List Text)) × AreRows (rows_needed request.view) request.source bytes rows × (remarks ≡ remarks_on request rows)
+RemarksAll request bytes remarks = (rows : List (List Text)) × AreJoined request bytes rows × (remarks ≡ remarks_on request rows)
 
 -- ---- a run
 
@@ -98,7 +120,7 @@ AreRemarks request bytes remarks = RemarksBy request.rows request bytes remarks
 
 -- at once: a beginning of the picture of the rows is written
 abbrev pub IsBegun : Request → List ℕ → Option (List ℕ) → Option (List ℕ) → Type 0
-IsBegun request bytes old new = (rows : List (List Text)) × AreRows (rows_needed request.view) request.source bytes rows × Begins old new (table_text request.view rows)
+IsBegun request bytes old new = (rows : List (List Text)) × AreJoined request bytes rows × Begins old new (table_text request.view rows)
 
 -- what is wrong is told before anything is written, except that memory may be refused, and a write may fail, while rows are written
 abbrev pub CausedAtOnce : Request → List ℕ → RunFault → Option (List ℕ) → Option (List ℕ) → Type 0

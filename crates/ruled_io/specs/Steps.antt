@@ -1,10 +1,11 @@
 -- What the parts of a run do.
-use Rattle.std.specs.Prelude.{◌≡◌, ◌⊎◌, ℕ, ◌≤◌, true, false, ⊤, List, ◌∷◌, ◌++◌, length, nat_lt, take, Option, Some, None, option_map, Result, Ok, Err, if◌then◌else◌}
+use Rattle.std.specs.Prelude.{◌≡◌, ◌⊎◌, ℕ, ◌≤◌, true, false, ⊤, List, [], ◌∷◌, ◌++◌, drop, length, nat_lt, take, Option, Some, None, option_map, Result, Ok, Err, if◌then◌else◌}
 use Rattle.std.specs.Io.KnownBytes.{Appends, Keeps}
 use Rattle.pg_layout.specs.Text.{Text}
 use Rattle.ruled_table.specs.Plans.{Plan}
 use Rattle.ruled_table.specs.RowLines.{HasNoRoom, begun_text}
 use Rattle.ruled_io.specs.Faults.{but_line, but_line_in, fault_of_view, is_early, is_failure, is_memory, is_read}
+use Rattle.ruled_io.specs.Further.{names_columns}
 use Rattle.ruled_json.specs.Rows.{plain_rules}
 use Rattle.ruled_json.specs.Streamed.{LineRules}
 use Rattle.ruled_io.specs.Reading.{sound_rows, wrong_in}
@@ -81,6 +82,13 @@ module _ (text : Text) (wrong : Option ViewFault) (old new : Option (List ℕ)) 
   abbrev pub DrawsInMemory : {X : Type 0} → Result X RunFault → Type 0
   DrawsInMemory (Ok x) = (wrong ≡ None) × Appends old new text
   DrawsInMemory (Err fault) = (is_read fault ≡ false) × (is_early fault ≡ false) × Begins old new text
+
+-- ---- rows of several inputs
+
+-- rows below others: row 0, if it names the columns, only where none are above
+abbrev pub beneath : Options → List (List Text) → List (List Text) → List (List Text)
+beneath options [] rows = rows
+beneath options (first ∷ above) rows = (first ∷ above) ++ (if names_columns options then drop 1 rows else rows)
 
 -- ---- the first rows of an input
 

@@ -14,13 +14,13 @@ ghost use Rattle.ruled_table.specs.View.{all_excess, all_fault, all_text, table_
 ghost use Rattle.ruled_io.specs.Faults.{is_early, is_of_write, is_read};
 ghost use Rattle.ruled_io.specs.Output.{TellsWrite, failure_in, failure_of, write_part, Begins};
 ghost use Rattle.ruled_io.specs.Reading.{ReportsRead, read_failure};
-ghost use Rattle.ruled_io.specs.Requests.{rows_needed};
-ghost use Rattle.ruled_io.specs.Runs.{AreRows, CausedAtOnce, LacksInput, RemarksAll, ShowsAll};
+ghost use Rattle.ruled_io.specs.Runs.{AreJoined, CausedAtOnce, LacksInputs, RemarksAll, ShowsAll};
 ghost use Rattle.ruled_io.specs.Steps.{Draws, DrawsInMemory};
 ghost use Rattle.ruled_io.specs.declared.fault.RunFault.{RunFault};
 ghost use Rattle.ruled_table.specs.declared.options.Options.{Options};
 
 use crate::fault::{InputFault, RunFault};
+use crate::further::joined;
 use crate::heads::{read_heads, rows_needed};
 use crate::lines::{write_end, write_rows};
 use crate::output::Output;
@@ -32,23 +32,24 @@ use ruled_table::{Blocks, Layout, Options, TableRows, TextColors, chosen_rows, p
 use std::alloc::Global;
 use std::io::{Read, Write};
 
-// The rows that are asked of an input, as many as are needed. Nothing else is kept of rows of separated values.
+// The rows of all inputs: of the first one as many as are needed, and all of those below them. Nothing else is kept of
+// rows of separated values.
 fn read_rows<R: Read + Drop>(
     alloc: Global,
     request: &Request,
     pieces: &mut Pieces<R>,
 ) -> Result<Vec<StringRecord>, RunFault>
-    ensures rows { IfOk result (λ rows. IfSome (R.remaining pieces.old.input) (λ bytes. AreRows (rows_needed request.now.view) request.now.source bytes (map fields_of rows.items))) }
-    ensures cause { IfErr result (λ fault. IfSome (R.remaining pieces.old.input) (λ bytes. LacksInput (rows_needed request.now.view) request.now.source bytes fault)) }
+    ensures rows { IfOk result (λ rows. IfSome (R.remaining pieces.old.input) (λ bytes. AreJoined request.now bytes (map fields_of rows.items))) }
+    ensures cause { IfErr result (λ fault. IfSome (R.remaining pieces.old.input) (λ bytes. LacksInputs request.now bytes fault)) }
     ensures unwritten { IfErr result (λ fault. write_part fault ≡ None) }
     ensures noted { ReportsRead (read_failure pieces.new) result }
 {
-    let limit = rows_needed(&request.view).unwrap_or(usize::MAX);
+    let limit = rows_needed(request).unwrap_or(usize::MAX);
     let rows = read_heads(alloc, &request.source, limit, pieces)?;
     if rows.len() == usize::MAX {
         return Err(RunFault::Input(InputFault::Memory));
     }
-    Ok(rows)
+    Ok(joined(alloc, &request.view, &request.further, rows)?)
 }
 
 // Writes the lines of all rows of a table, and its end.

@@ -26,6 +26,21 @@ pub enum StreamedFault {
     Database,
 }
 
+/// Why a further input adds no rows.
+#[derive(Clone, Copy)]
+pub enum FurtherFault {
+    /// The bytes of separated values hold no rows.
+    Rows(RowsFault),
+    /// The bytes of JSON hold no rows.
+    Json(JsonFault),
+    /// It is a database.
+    Database,
+    /// Its row 0 isn't that of the table.
+    Header,
+    /// Its rows have another number of fields than row 0 of the table, which names no columns.
+    Length,
+}
+
 /// Why an input has no table: its bytes, the request, or out of memory.
 #[derive(Clone, Copy)]
 pub enum InputFault {
@@ -41,6 +56,8 @@ pub enum InputFault {
     Log,
     /// Rows can't be streamed.
     Stream(StreamedFault),
+    /// The further input of this number, counted from 0, adds no rows.
+    Further { input: usize, fault: FurtherFault },
     /// Row 0 has no field of this name, of those that [`ruled_table::Options::columns`] lists, counted from 0.
     Column(usize),
     /// Row 0 has no column for the word of [`ruled_table::Options::sort`].
@@ -192,6 +209,18 @@ impl fmt::Display for StreamedFault {
 }
 
 impl InputFault {
+    // The same fault, of the further input of this number.
+    pub(crate) fn of_further(self, input: usize) -> InputFault
+        ensures { result ≡ spec.of_further input self }
+    {
+        let fault = match self {
+            InputFault::Rows(fault) => FurtherFault::Rows(fault),
+            InputFault::Json(fault) => FurtherFault::Json(fault),
+            _ => return self,
+        };
+        InputFault::Further { input, fault }
+    }
+
     // Its exit status.
     fn status(self) -> u8
         ensures { result ≡ spec.status_of_input self }
@@ -206,15 +235,9 @@ impl InputFault {
     // Writes its error line. An error is the writer's.
     fn tell<W: Write>(self, request: &Request, err: &mut W) -> io::Result<()> {
         match self {
-            InputFault::Rows(fault @ RowsFault::Encoding { .. }) => {
-                writeln!(err, "{fault}; try --encoding cp1252")
-            }
-            InputFault::Rows(fault) => writeln!(err, "{fault}"),
-            InputFault::Json(fault @ JsonFault::Encoding(_)) => {
-                writeln!(err, "{fault}; try --encoding cp1252")
-            }
-            InputFault::Json(JsonFault::NoMember) => tell_member(request.source.path(), err),
-            InputFault::Json(fault) => writeln!(err, "{fault}"),
+            InputFault::Rows(fault) => tell_rows(fault, err),
+            InputFault::Json(fault) => tell_json(fault, request.source.path(), err),
+            InputFault::Further { fault, .. } => fault.tell(request, err),
             InputFault::Sql(fault) => match request.source.selection() {
                 Some(Selection::Query(query)) => tell_refusal(fault, query, err),
                 _ => writeln!(err, "{fault}"),
@@ -236,6 +259,36 @@ impl InputFault {
             }
             InputFault::Totals => writeln!(err, "the sizes are too large"),
             InputFault::Memory => writeln!(err, "out of memory"),
+        }
+    }
+}
+
+// Writes why bytes of separated values hold no rows. An error is the writer's.
+fn tell_rows<W: Write>(fault: RowsFault, err: &mut W) -> io::Result<()> {
+    match fault {
+        RowsFault::Encoding { .. } => writeln!(err, "{fault}; try --encoding cp1252"),
+        _ => writeln!(err, "{fault}"),
+    }
+}
+
+// Writes why bytes of JSON hold no rows, which are those of the member at this path. An error is the writer's.
+fn tell_json<W: Write>(fault: JsonFault, path: &[String], err: &mut W) -> io::Result<()> {
+    match fault {
+        JsonFault::Encoding(_) => writeln!(err, "{fault}; try --encoding cp1252"),
+        JsonFault::NoMember => tell_member(path, err),
+        _ => writeln!(err, "{fault}"),
+    }
+}
+
+impl FurtherFault {
+    // Writes its error line, but for the name of the input. An error is the writer's.
+    fn tell<W: Write>(self, request: &Request, err: &mut W) -> io::Result<()> {
+        match self {
+            FurtherFault::Rows(fault) => tell_rows(fault, err),
+            FurtherFault::Json(fault) => tell_json(fault, request.source.path(), err),
+            FurtherFault::Database => writeln!(err, "a database can't be one of several files"),
+            FurtherFault::Header => writeln!(err, "row 0 isn't that of the first file"),
+            FurtherFault::Length => writeln!(err, "not as many fields as in the first file"),
         }
     }
 }
@@ -298,9 +351,32 @@ impl RunFault {
         }
     }
 
+    // The name of the input that has it, if there are several. A fault of what they are asked for has none.
+    fn input_name(self, request: &Request) -> Option<&String> {
+        if request.further.is_empty() {
+            return None;
+        }
+        match self {
+            RunFault::Input(InputFault::Further { input, .. }) => {
+                Some(&request.further.get(input)?.name)
+            }
+            RunFault::Read(_)
+            | RunFault::Input(
+                InputFault::Rows(_)
+                | InputFault::Json(_)
+                | InputFault::Database(_)
+                | InputFault::Log,
+            ) => Some(&request.name),
+            _ => None,
+        }
+    }
+
     // Writes its error line. An error is the writer's.
     pub(crate) fn tell<W: Write>(self, request: &Request, err: &mut W) -> io::Result<()> {
         write!(err, "ruled: ")?;
+        if let Some(name) = self.input_name(request) {
+            write!(err, "{}: ", Quoted(name.as_str()))?;
+        }
         match self {
             RunFault::Input(fault) => fault.tell(request, err)?,
             RunFault::Read(ReadFault::Encoding) => {

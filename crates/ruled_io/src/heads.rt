@@ -13,19 +13,20 @@ use crate::formats::{Format, content_of, format_streamed};
 use crate::input::all_rows;
 use crate::pieces::Pieces;
 use crate::reader::Reading;
-use crate::request::Source;
+use crate::request::{Request, Source};
 use crate::stream::{read_first, wrong_within};
 use csv::StringRecord;
 use ruled_json::MemberRules;
-use ruled_table::{Options, limit_of};
+use ruled_table::limit_of;
 use std::alloc::Global;
 use std::io::Read;
 
-/// How many rows are needed of an input, if not all.
-pub(crate) fn rows_needed(options: &Options) -> Option<usize>
-    ensures { result ≡ rows_needed options.now }
+/// How many rows are needed of the first input, if not all.
+pub(crate) fn rows_needed(request: &Request) -> Option<usize>
+    ensures { result ≡ rows_needed request.now }
 {
-    if options.is_padded || options.sort.is_some() {
+    let options = &request.view;
+    if !request.further.is_empty() || options.is_padded || options.sort.is_some() {
         return None;
     }
     let limit = limit_of(options)?;

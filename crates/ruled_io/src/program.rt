@@ -165,7 +165,7 @@ fn ending_of<W: Write>(answer: Result<Remarks, RunFault>, request: &Request, err
 }
 
 /// Shows the table of the rows that are requested of `input`, or reports why there is none: for a
-/// database the rows of its query, else those that the bytes hold.
+/// database the rows of its query, else those that the bytes hold. At once, rows of further inputs are below them.
 ///
 /// At once, `input` is read to its end, to its first bad row, or as far as the first rows need, and what is wrong with
 /// the rows or their table is reported, before anything is written.

@@ -257,6 +257,17 @@ impl Source {
             Source::Rows(_) | Source::Members { .. } | Source::Database { .. } => {}
         }
     }
+
+    // Whether its rows may have more or fewer fields than row 0.
+    pub(crate) fn is_ragged(&self) -> bool
+        ensures { result ≡ spec.is_ragged self.now }
+    {
+        match self {
+            Source::Rows(Format::Separated(dialect)) => dialect.rows.is_ragged,
+            Source::Values { rules } | Source::Seen { rules, .. } => rules.is_ragged,
+            Source::Rows(_) | Source::Members { .. } | Source::Database { .. } => false,
+        }
+    }
 }
 
 // Whether a text is an array of objects, as JSON without spaces.
@@ -291,11 +302,26 @@ pub enum Rows {
     FromFirst(usize),
 }
 
+/// An input whose rows are below those of another one.
+#[derive(Drop)]
+pub struct FurtherInput {
+    /// Its name in error lines.
+    pub name: String,
+    /// What it is. A database is a fault.
+    pub source: Source,
+    /// All of its bytes.
+    pub bytes: Vec<u8>,
+}
+
 /// What a run is to show.
 #[derive(Drop)]
 pub struct Request {
+    /// The name of the input, which is in error lines if there are further inputs.
+    pub name: String,
     /// What the input is.
     pub source: Source,
+    /// Further inputs, whose rows are below its own. Only [`Rows::AtOnce`] shows them.
+    pub further: Vec<FurtherInput>,
     /// When its rows are shown.
     pub rows: Rows,
     /// How they are shown.

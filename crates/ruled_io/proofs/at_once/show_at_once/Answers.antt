@@ -2,8 +2,7 @@ use Rattle.std.proofs.Common.{◌∙◌, List, ℕ, map, Option}
 use Rattle.csv.specs.Records.{fields_of}
 use Rattle.ruled_table.specs.View.{table_fault, table_text}
 use Rattle.ruled_io.specs.Reading.{read_failure}
-use Rattle.ruled_io.specs.Requests.{rows_needed}
-use Rattle.ruled_io.specs.Runs.{AreRows, CausedAtOnce, LacksInput}
+use Rattle.ruled_io.specs.Runs.{AreJoined, CausedAtOnce, LacksInputs}
 use Rattle.ruled_io.proofs.AtOnce.{draws-unread, no-read, read-handed, writes-only}
 use Rattle.ruled_io.proofs.Causes.{after-drawn, draws-caused, early-handed, handed-known, if-so, lacks-caused, late, remarked-by, shown-drawn, unwritten-told}
 use Rattle.ruled_io.proofs.at_once.show_at_once.Goals as goal
@@ -15,7 +14,7 @@ returns-in_err-rows-clause-cause g c =
     let old = g.W.Write.contents c.args.out.now.writer in
     let found = c.in_err-rows.field-0.0 in
     handed-known given found c.from_residual.result (λ bytes fault. CausedAtOnce request bytes fault old old) c.from_residual.ensures.1
-    (if-so {P = λ bytes. LacksInput (rows_needed request.view) request.source bytes found} given c.in_err-rows.ensures.cause (λ bytes lacks. lacks-caused request bytes old found lacks))
+    (if-so {P = λ bytes. LacksInputs request bytes found} given c.in_err-rows.ensures.cause (λ bytes lacks. lacks-caused request bytes old found lacks))
 
 pub returns-in_err-wide-clause-cause : goal.returns-in_err-wide-clause-cause
 returns-in_err-wide-clause-cause g c =
@@ -26,7 +25,7 @@ returns-in_err-wide-clause-cause g c =
     let rows : List (List (List ℕ)) = map fields_of c.in_ok-rows.rows.items in
     let found = c.in_err-wide.field-0.0 in
     handed-known given found c.from_residual-in_err-wide.result (λ bytes fault. CausedAtOnce request bytes fault old new) c.from_residual-in_err-wide.ensures.1
-    (if-so {P = λ bytes. AreRows (rows_needed request.view) request.source bytes rows} given c.in_ok-rows.ensures.rows (λ bytes are. draws-caused request bytes rows are (Option ℕ) old new found c.in_err-wide.ensures.draws))
+    (if-so {P = λ bytes. AreJoined request bytes rows} given c.in_ok-rows.ensures.rows (λ bytes are. draws-caused request bytes rows are (Option ℕ) old new found c.in_err-wide.ensures.draws))
 
 pub returns-in_err-wide-clause-unwritten : goal.returns-in_err-wide-clause-unwritten
 returns-in_err-wide-clause-unwritten g c =
