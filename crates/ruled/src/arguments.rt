@@ -301,13 +301,13 @@ const CHOICES: [Choice; 38] = [
         name: "color",
         value: "WHEN",
         takes: Takes::Color,
-        help: "Print the header in bold, and texts of --missing and --null dim; by default (auto) if the output is a terminal, unless NO_COLOR is set or TERM is dumb",
+        help: "Print the header in bold; by default (auto) if the output is a terminal, unless NO_COLOR is set or TERM is dumb",
         ..FLAG
     },
     Choice {
-        name: "signs",
+        name: "tint",
         conflicts: &["stream"],
-        help: "Where there is colour, print numbers below zero in red, and those above it in green",
+        help: "Where there is colour, print numbers below zero in red, those above it in green, and texts of --missing and --null dim",
         ..FLAG
     },
     Choice {
@@ -643,7 +643,7 @@ fn view_of(
         bounds: bounds_of(alloc, found, screen.columns)?,
         is_omitting: is_omitting(found, screen),
         is_colored: is_colored(found, screen),
-        has_signs: found.get_flag("signs"),
+        is_tinted: found.get_flag("tint"),
         is_raw: found.get_flag("raw"),
         is_markdown: found.get_flag("markdown"),
     })

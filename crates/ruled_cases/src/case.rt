@@ -68,7 +68,7 @@ impl Case {
             },
             is_omitting: false,
             is_colored: false,
-            has_signs: false,
+            is_tinted: false,
             is_raw: false,
             is_markdown: false,
         };

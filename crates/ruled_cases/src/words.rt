@@ -189,7 +189,7 @@ fn set_value(request: &mut Request, name: &str, value: &str) -> Option<()> {
         "omit" => view.is_omitting = true,
         "count" => view.is_counting = true,
         "color" => view.is_colored = true,
-        "signs" => view.has_signs = true,
+        "tint" => view.is_tinted = true,
         "raw" => view.is_raw = true,
         "vertical" => view.vertical = vertical_of(value)?,
         "markdown" => {

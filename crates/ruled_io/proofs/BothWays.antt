@@ -3,9 +3,9 @@ use Rattle.std.proofs.Common.{◌≡◌, ◌∙◌, ◌∷◌, ◌++◌, ◌≤�
 use Rattle.std.specs.Prelude.{◌≢◌, ◌==◌, ◌&&◌, ◌||◌, not, is_some, map, slice_get, slice_index_or, option_map, string_bytes, if◌then◌else◌}
 use Rattle.std.specs.Option.{option_and_then, option_or}
 use Rattle.std.proofs.Math.Path.{fun_ext}
-use Rattle.std.proofs.lemmas.Bool.{cases_Bool, eqb-true, true≢false}
+use Rattle.std.proofs.lemmas.Bool.{cases_Bool}
 use Rattle.std.proofs.lemmas.Bool.Decides.{nat_tests}
-use Rattle.std.proofs.lemmas.List.{append-nil, nil_from_length, take_all}
+use Rattle.std.proofs.lemmas.List.{append-nil, take_all}
 use Rattle.pg_layout.specs.Colors.{Color}
 use Rattle.pg_layout.specs.Text.{Text}
 use Rattle.pg_layout.specs.declared.position.Position.{Position}
@@ -81,11 +81,6 @@ whole-wrong options (row ∷ rows) =
     ap (λ (none : Bool). if none then None else option_map of_view (first_fault options (row ∷ rows))) (not-none (length rows))
     ∙ ap (option_map of_view) (once (column_fault options.columns.items (row ∷ rows)) _ (start_fault (layout_of options (row ∷ rows))))
 
-neither : (a b : Bool) → (a || not b) ≡ false → (a ≡ false) × (b ≡ true)
-neither true b is = absurd (true≢false is)
-neither false true is = (refl, refl)
-neither false false is = absurd (true≢false is)
-
 none-named : (names : List Text) (rows : List (List Text)) → names ≡ [] → named names rows ≡ rows
 none-named [] rows none = refl
 none-named (name ∷ names) rows none = absurd (cc)
@@ -100,9 +95,8 @@ module _ (options : Options) (each : ShowsEachRow options) where
   no-tint : options.is_colored ≡ true → (place : Option ℕ) (row : Option (List Text)) → option_and_then (λ fields. field_tint options place (drawn_at fields place)) row ≡ None
   no-tint colored place None = refl
   no-tint colored place (Some fields) =
-      let parts = neither options.has_signs (length options.missing.items == 0) (rw colored at each.untinted) in
-      let empty : options.missing.items ≡ [] = nil_from_length options.missing.items (eqb-true _ 0 parts.1) in
-      rw (empty, parts.0) refl
+      let plain : options.is_tinted ≡ false = rw colored at each.untinted in
+      rw plain refl
 
   same-tint : (is_name : Bool) (place : Option ℕ) (row other : Option (List Text)) → tint_of options is_name place row ≡ tint_of options is_name place other
   same-tint is_name place row other = elim (cases_Bool options.is_colored) [

@@ -99,7 +99,7 @@ color_of Green = record { prefix = 27 ∷ codes "[32m"; suffix = 27 ∷ codes "[
 abbrev pub has_sign : Text → Bool
 has_sign text = is_number text && has_value text
 
--- where numbers have colours: red below zero, green above it
+-- red below zero, green above it
 abbrev pub sign_tint : Text → Option Tint
 sign_tint text = if has_sign text then Some (if is_negative text then Red else Green) else None
 
@@ -107,12 +107,13 @@ sign_tint text = if has_sign text then Some (if is_negative text then Red else G
 abbrev pub is_label : Options → Option ℕ → Bool
 is_label options place = options.is_numbered && (unwrap_or place 1 == 0)
 
--- the colour of a field that has this place in its row: dim, if it counts as blank
+-- the colour of a field that has this place in its row, where fields have any: dim, if it counts as blank
 abbrev pub field_tint : Options → Option ℕ → Text → Option Tint
 field_tint options place text =
-    if is_missing options text then Some Dim
-    else if options.has_signs && not (is_label options place) then sign_tint text
-    else None
+    if not options.is_tinted then None
+    else if is_missing options text then Some Dim
+    else if is_label options place then None
+    else sign_tint text
 
 -- Where texts have colours, names are bold. Those of a row that isn't known have none.
 abbrev pub tint_of : Options → Bool → Option ℕ → Option (List Text) → Option Tint
@@ -123,7 +124,7 @@ tint_of options is_name place row =
 
 -- whether fields can have colours
 abbrev pub colors_fields : Options → Bool
-colors_fields options = options.is_colored && (options.has_signs || not (length options.missing.items == 0))
+colors_fields options = options.is_colored && options.is_tinted
 
 module _ (options : Options) (places : List (Option ℕ)) where
   -- in a table of columns with these places, of which these rows are known

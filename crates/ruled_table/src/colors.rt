@@ -58,11 +58,14 @@ fn has_sign(text: &str) -> bool
 fn field_tint(options: &Options, place: Option<usize>, text: &str) -> Option<&'static Tint>
     ensures { lent_color spec.color_of result ≡ option_map spec.color_of (spec.field_tint options.now place text.now) }
 {
+    if !options.is_tinted {
+        return None;
+    }
     if is_missing(options, text) {
         return Some(&Tint::Dim);
     }
     let is_label = options.is_numbered && place.unwrap_or(1) == 0;
-    if !options.has_signs || is_label || !has_sign(text) {
+    if is_label || !has_sign(text) {
         return None;
     }
     if is_negative(text.as_bytes()) {

@@ -84,11 +84,11 @@ pub struct Options {
     /// the table says how many columns there are and how many are shown. If `sides` or the limits of
     /// `bounds` have several words, each for a column of its own, none is left out.
     pub is_omitting: bool,
-    /// Whether texts have colours, by escapes of terminals: those of a header, and names in blocks, are bold, and texts of
-    /// `missing` below them are dim. Rows of a stream have none.
+    /// Whether names have colours, by escapes of terminals: those of a header, and of blocks, are bold.
     pub is_colored: bool,
-    /// Whether, where texts have colours, numbers below zero are red and others but zero green. Numbers of rows have none.
-    pub has_signs: bool,
+    /// Whether, where names have colours, other texts have some, too: those of `missing` are dim, numbers below zero red,
+    /// and those above it green. Numbers of rows have none, nor have the rows of a stream.
+    pub is_tinted: bool,
     /// Whether control characters are sent as they are.
     pub is_raw: bool,
     /// Whether texts are escaped, so that Markdown reads each as one cell: a bar is `\|`, a backslash
