@@ -1,6 +1,7 @@
 -- What a table looks like whose first rows are known, and the texts of the others within its columns.
 use Rattle.std.specs.Prelude.{◌≡◌, ◌≢◌, false, ℕ, ◌+◌, ◌-◌, nat_le, List, [], ◌∷◌, length, slice_index_or, Option, Some, None, Result, Ok, Err, if◌then◌else◌}
 use Rattle.std.specs.Option.{option_or}
+use Rattle.std.specs.Str.{trim_end}
 use Rattle.pg_layout.specs.Records.{columns_of}
 use Rattle.pg_layout.specs.Text.{Text, text_width_of}
 use Rattle.pg_layout.specs.declared.dimension.ConstantDimension.{ConstantDimension}
@@ -19,6 +20,7 @@ use Rattle.pg_table.specs.declared.overflow.Overflow.TheVariants.{Wrap, Cut}
 use Rattle.pg_table.specs.declared.sizes.Axis.TheVariants.{Columns, Rows}
 use Rattle.ruled_table.specs.Bounds.{are_told, width_of}
 use Rattle.ruled_table.specs.Columns.{ellipsis}
+use Rattle.ruled_table.specs.Numbers.{is_number}
 use Rattle.ruled_table.specs.Ranges.{kept_limits}
 use Rattle.ruled_table.specs.Tables.{with_line}
 use Rattle.ruled_table.specs.Shown.{line_in, sided_config}
@@ -73,11 +75,19 @@ widths_fault options config rows = if are_told options.bounds then fitted_fault 
 abbrev pub narrowed : ℕ → Text → Text
 narrowed width text = if nat_le (text_width_of text) width then text else cut_text width ellipsis text
 
-abbrev pub overflowed : Overflow → ℕ → Text → Text
-overflowed (Wrap breaking) width text = narrowed width (wrapped breaking width text)
-overflowed (Cut tail) width text = cut_text width tail.now text
+abbrev pub broken : Overflow → ℕ → Text → Text
+broken (Wrap breaking) width text = narrowed width (wrapped breaking width text)
+broken (Cut tail) width text = cut_text width tail.now text
 
--- a text as it is where it has room, and else wrapped, or cut
+-- a number that has no room, with an ellipsis at its end, or, where only spaces behind it have none, without these
+abbrev pub cut_number : ℕ → Text → Text
+cut_number width text = cut_text width (if nat_le (text_width_of (trim_end text)) width then [] else ellipsis) text
+
+-- a number goes on in no further line
+abbrev pub overflowed : Overflow → ℕ → Text → Text
+overflowed overflow width text = if is_number (trim_end text) then cut_number width text else broken overflow width text
+
+-- a text as it is where it has room, and else cut, or wrapped
 abbrev pub text_within : Overflow → ℕ → Text → Text
 text_within overflow width text = if nat_le (text_width_of text) width then text else overflowed overflow width text
 

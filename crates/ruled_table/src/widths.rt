@@ -8,6 +8,7 @@ ghost use Rattle.ruled_table.specs.Widths as spec;
 
 use crate::fault::{ViewFault, fault_in};
 use crate::lent_rows::LentRows;
+use crate::numbers::is_number;
 use crate::options::Options;
 use crate::ranges::{kept_limits, widest_texts};
 use crate::table::{line_in, set_line_below, sided_config};
@@ -123,7 +124,8 @@ fn narrowed(alloc: Global, width: usize, text: String) -> Result<String, AllocEr
     cut(alloc, &text, width, "…")
 }
 
-// A text that takes more columns, wrapped, or cut.
+// A text that takes more columns, wrapped, or cut. A number is cut, so that nobody takes its first line for all of it;
+// of spaces behind it those without room go first.
 fn overflowed(
     alloc: Global,
     overflow: Overflow<'_>,
@@ -132,13 +134,20 @@ fn overflowed(
 ) -> Result<String, AllocError>
     ensures { IfOk result (λ shown. string_bytes shown ≡ spec.overflowed overflow.entry width text.now) }
 {
+    let bare = text.trim_end();
+    if is_number(bare) {
+        if get_text_width(bare) <= width {
+            return cut(alloc, text, width, "");
+        }
+        return cut(alloc, text, width, "…");
+    }
     match overflow {
         Overflow::Wrap(breaking) => narrowed(alloc, width, wrap(alloc, text, width, breaking)?),
         Overflow::Cut(tail) => cut(alloc, text, width, tail),
     }
 }
 
-/// A text within so many columns: lent unchanged if it takes no more, else wrapped, or cut.
+/// A text within so many columns: lent unchanged if it takes no more, else wrapped, or cut, as a number always is.
 pub(crate) fn lent_within<'a>(
     alloc: Global,
     overflow: Overflow<'_>,
