@@ -7,7 +7,7 @@ use clap::error::ErrorKind;
 use clap::{Arg, ArgAction, ArgMatches, Command};
 use pg_layout::AlignmentHorizontal;
 use ruled_io::{Encoding, FurtherInput, Kind, MemberRules, OneLine, Request, Rows, Source};
-use ruled_table::{Bounds, Breaking, Look, Options, Overflow, Sort, Vertical};
+use ruled_table::{Bounds, Breaking, Look, Options, Overflow, Side, Sort, Vertical};
 use std::alloc::{AllocError, Global};
 use std::env::VarError;
 use std::io::IsTerminal;
@@ -21,7 +21,7 @@ static WHEN: [&str; 2] = ["always", "auto"];
 
 static COLORED: [&str; 3] = ["auto", "always", "never"];
 
-static SIDES: [&str; 5] = ["auto", "left", "right", "centre", "center"];
+static SIDES: [&str; 6] = ["auto", "left", "right", "centre", "center", "point"];
 
 /// What is to be shown.
 #[derive(Drop)]
@@ -287,7 +287,7 @@ const CHOICES: [Choice; 38] = [
         value: "SIDES",
         takes: Takes::Side,
         is_list: true,
-        help: "Align columns left, right, centre or auto, which is right if all texts below the header are numbers; one word is for all columns",
+        help: "Align columns left, right, centre, auto, which is right if all texts below the header are numbers, or point, which is auto with points below one another; one word is for all columns",
         ..FLAG
     },
     Choice {
@@ -536,20 +536,18 @@ fn sort_of(alloc: Global, word: Option<&str>) -> Result<Option<Sort>, AllocError
 }
 
 // The side that a word names, where it names one.
-fn side_of(word: &str) -> Option<AlignmentHorizontal> {
+fn side_of(word: &str) -> Option<Side> {
     match word {
-        "left" => Some(AlignmentHorizontal::Left),
-        "right" => Some(AlignmentHorizontal::Right),
-        "centre" | "center" => Some(AlignmentHorizontal::Center),
+        "left" => Some(Side::To(AlignmentHorizontal::Left)),
+        "right" => Some(Side::To(AlignmentHorizontal::Right)),
+        "centre" | "center" => Some(Side::To(AlignmentHorizontal::Center)),
+        "point" => Some(Side::Point),
         _ => None,
     }
 }
 
 // The sides that were listed.
-fn sides_of(
-    alloc: Global,
-    words: Option<&[&str]>,
-) -> Result<Vec<Option<AlignmentHorizontal>>, AllocError> {
+fn sides_of(alloc: Global, words: Option<&[&str]>) -> Result<Vec<Option<Side>>, AllocError> {
     let mut sides = Vec::new(alloc);
     for word in words.unwrap_or(&[]) {
         sides.push(side_of(word))?;

@@ -5,7 +5,7 @@ use ruled_io::{
     Fields, Format, Kind, Known, Log, MemberRules, Query, Request, RowRules, Rows, Selection,
     Source,
 };
-use ruled_table::{Look, Options, Overflow, Sort, Vertical};
+use ruled_table::{Look, Options, Overflow, Side, Sort, Vertical};
 use std::alloc::{AllocError, Global};
 use std::mem;
 
@@ -54,12 +54,13 @@ fn delimiter_of(word: &str) -> u8 {
 }
 
 // The side that a word names.
-fn side_of(word: &str) -> Option<Option<AlignmentHorizontal>> {
+fn side_of(word: &str) -> Option<Option<Side>> {
     match word {
         "auto" => Some(None),
-        "left" => Some(Some(AlignmentHorizontal::Left)),
-        "right" => Some(Some(AlignmentHorizontal::Right)),
-        "centre" => Some(Some(AlignmentHorizontal::Center)),
+        "left" => Some(Some(Side::To(AlignmentHorizontal::Left))),
+        "right" => Some(Some(Side::To(AlignmentHorizontal::Right))),
+        "centre" => Some(Some(Side::To(AlignmentHorizontal::Center))),
+        "point" => Some(Some(Side::Point)),
         _ => None,
     }
 }

@@ -14,6 +14,7 @@ use Rattle.pg_fit.specs.Rows.{row_height}
 use Rattle.pg_fit.proofs.LawsOfControls.{visible_texts_stay}
 use Rattle.pg_table.specs.declared.overflow.Overflow.{Overflow}
 use Rattle.ruled_table.specs.Plans.{Plan}
+use Rattle.ruled_table.specs.Points.{pointed_row}
 use Rattle.ruled_table.specs.Shown.{shown_row, shown_text}
 use Rattle.ruled_table.specs.Widths.{row_within, text_within}
 use Rattle.ruled_table.specs.declared.options.Options.{Options}
@@ -101,9 +102,10 @@ height-push [] text = omega arith
 height-push (first ∷ texts) text = omega (arith, height-push texts text)
 
 -- the cells of a row, by what is known of the options and the plan
-pub cells-own : (options asked : Options) (plan laid : Plan) (row cells : List Text) → asked ≡ options → laid ≡ plan → cells ≡ row_within asked.bounds.overflow laid.width (shown_row asked laid.places row)
-    → cells ≡ row_within options.bounds.overflow plan.width (shown_row options plan.places row)
-cells-own options asked plan laid row cells same is made =
+pub cells-own : (options asked : Options) (plan laid : Plan) (row fields cells : List Text) → asked ≡ options → laid ≡ plan → fields ≡ pointed_row plan.extents row
+    → cells ≡ row_within asked.bounds.overflow laid.width (shown_row asked laid.places fields) → cells ≡ row_within options.bounds.overflow plan.width (shown_row options plan.places (pointed_row plan.extents row))
+cells-own options asked plan laid row fields cells same is pointed made =
     made
-    ∙ ap (λ (o : Options). row_within o.bounds.overflow laid.width (shown_row o laid.places row)) same
-    ∙ ap (λ (p : Plan). row_within options.bounds.overflow p.width (shown_row options p.places row)) is
+    ∙ ap (λ (o : Options). row_within o.bounds.overflow laid.width (shown_row o laid.places fields)) same
+    ∙ ap (λ (p : Plan). row_within options.bounds.overflow p.width (shown_row options p.places fields)) is
+    ∙ ap (λ (texts : List Text). row_within options.bounds.overflow plan.width (shown_row options plan.places texts)) pointed

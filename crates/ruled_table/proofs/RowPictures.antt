@@ -26,6 +26,7 @@ use Rattle.pg_table.specs.declared.overflow.Overflow.{Overflow}
 use Rattle.ruled_table.specs.LentRows.{fields_at, texts_at}
 use Rattle.ruled_table.specs.Layouts.{cells_of, cells_within, heights_of, start_of, table_of, whole_of, whole_text}
 use Rattle.ruled_table.specs.Plans.{Plan}
+use Rattle.ruled_table.specs.Points.{pointed_row}
 use Rattle.ruled_table.specs.RowLines.{HasPrinted, after_rows, begun_of, begun_text, ended, lines_of, next_lines, note_below}
 use Rattle.ruled_table.specs.Shown.{shown_row}
 use Rattle.ruled_table.specs.Widths.{texts_within}
@@ -239,7 +240,7 @@ within-length k overflow width (text ∷ texts) = ap suc (within-length (k + 1) 
 
 pub even-cells : (options : Options) (plan : Plan) (rows : List (List Text)) (i : ℕ) (d : List Text) → i < length (cells_of options plan rows) → length (get_or (cells_of options plan rows) i d) ≡ length plan.places
 even-cells options plan [] i d less = absurd (omega (arith, less))
-even-cells options plan (row ∷ rows) zero d less = within-length 0 options.bounds.overflow plan.width (shown_row options plan.places row) ∙ length-map plan.places _
+even-cells options plan (row ∷ rows) zero d less = within-length 0 options.bounds.overflow plan.width (shown_row options plan.places (pointed_row plan.extents row)) ∙ length-map plan.places _
 even-cells options plan (row ∷ rows) (suc i) d less = even-cells options plan rows i d (omega (arith, less))
 
 -- of records whose fields are lent

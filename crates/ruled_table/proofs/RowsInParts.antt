@@ -14,10 +14,12 @@ use Rattle.pg_stream.specs.LiveStreams.{Living}
 use Rattle.pg_stream.specs.Printing.{Printing, after_row, printer, row_text}
 use Rattle.pg_stream.specs.SizedStreams.{CountsLines, IsNextHeight}
 use Rattle.pg_stream.proofs.SizedRows.{after_row-by, count-lines, row_text-by}
-use Rattle.ruled_table.specs.Layouts.{cells_of, heights_of, start_of, cells_within, but_last, layout_by, layout_of, measured_in, places_in, plan_by, plan_fault, ruler_of, sizes_fault_by}
+use Rattle.ruled_table.specs.Layouts.{cells_of, heights_of, start_of, cells_within, but_last, extents_in, layout_by, layout_of, measured_in, places_in, plan_by, plan_fault, sizes_fault_by}
 use Rattle.ruled_table.specs.Columns.{ellipsis}
 use Rattle.ruled_table.specs.Omitted.{abridged, note_of, shown_columns}
 use Rattle.ruled_table.specs.Plans.{Plan, plan_of}
+use Rattle.ruled_table.specs.Points.{extents_of, pointed_fields, pointed_row, ruler_of}
+use Rattle.ruled_table.specs.declared.points.Extent.{Extent}
 use Rattle.ruled_table.specs.RowLines.{AreHeights, HasPrinted, after_rows, begun_of, begun_text, ended_by, lines_of, next_lines, GrowsTo, TellsRoom}
 use Rattle.ruled_table.specs.Shown.{shown_row, shown_text}
 use Rattle.ruled_table.specs.Widths.{row_within, room_of, text_within, texts_within, first_config, widths_of}
@@ -242,8 +244,11 @@ begun-above plan above below plain =
 
 cells-append : (options : Options) (plan : Plan) (xs ys : List (List Text)) → cells_of options plan (xs ++ ys) ≡ cells_of options plan xs ++ cells_of options plan ys
 cells-append options plan xs ys =
-    ap (λ (rows : List (List Text)). map (row_within options.bounds.overflow plan.width) rows) (map-append (shown_row options plan.places) xs ys)
-    ∙ map-append (row_within options.bounds.overflow plan.width) (map (shown_row options plan.places) xs) (map (shown_row options plan.places) ys)
+    let above : List (List Text) = map (pointed_row plan.extents) xs in
+    let below : List (List Text) = map (pointed_row plan.extents) ys in
+    ap (λ (rows : List (List Text)). map (row_within options.bounds.overflow plan.width) (map (shown_row options plan.places) rows)) (map-append (pointed_row plan.extents) xs ys)
+    ∙ ap (λ (rows : List (List Text)). map (row_within options.bounds.overflow plan.width) rows) (map-append (shown_row options plan.places) above below)
+    ∙ map-append (row_within options.bounds.overflow plan.width) (map (shown_row options plan.places) above) (map (shown_row options plan.places) below)
 
 -- the lines of rows are a beginning of those of these rows and others below them
 pub begun-on : (options : Options) (plan : Plan) (rows more : List (List Text)) → plan.config.spans ≡ [] → (text : Text) × (begun_text options plan rows ++ text ≡ begun_text options plan (rows ++ more))
@@ -253,14 +258,24 @@ begun-on options plan rows more plain = (
 )
 
 -- the cells of one row more, by what is known of the options and the plan
-pub cells-next : (options asked : Options) (plan laid : Plan) (rows : List (List Text)) (row cells : List Text) → asked ≡ options → laid ≡ plan → cells ≡ row_within asked.bounds.overflow laid.width (shown_row asked laid.places row)
-    → cells_of options plan rows ++ cells ∷ [] ≡ cells_of options plan (rows ++ row ∷ [])
-cells-next options asked plan laid rows row cells same is made =
+pub cells-next : (options asked : Options) (plan laid : Plan) (rows : List (List Text)) (row fields cells : List Text) → asked ≡ options → laid ≡ plan → fields ≡ pointed_row plan.extents row
+    → cells ≡ row_within asked.bounds.overflow laid.width (shown_row asked laid.places fields) → cells_of options plan rows ++ cells ∷ [] ≡ cells_of options plan (rows ++ row ∷ [])
+cells-next options asked plan laid rows row fields cells same is pointed made =
     ap (λ (xs : List Text). cells_of options plan rows ++ xs ∷ [])
     (made
-    ∙ ap (λ (o : Options). row_within o.bounds.overflow laid.width (shown_row o laid.places row)) same
-    ∙ ap (λ (p : Plan). row_within options.bounds.overflow p.width (shown_row options p.places row)) is)
+    ∙ ap (λ (o : Options). row_within o.bounds.overflow laid.width (shown_row o laid.places fields)) same
+    ∙ ap (λ (p : Plan). row_within options.bounds.overflow p.width (shown_row options p.places fields)) is
+    ∙ ap (λ (texts : List Text). row_within options.bounds.overflow plan.width (shown_row options plan.places texts)) pointed)
     ∙ sym (cells-append options plan rows (row ∷ []))
+
+-- a row as it is where no points are below one another, and with spaces behind its numbers where some are
+pub as-it-is : (extents : List Extent) (row : List Text) → length extents ≡ 0 → row ≡ pointed_row extents row
+as-it-is [] row none = refl
+as-it-is (extent ∷ extents) row none = absurd (omega (arith, none))
+
+pub as-pointed : (extents : List Extent) (row : List Text) → 0 < length extents → pointed_fields extents row ≡ pointed_row extents row
+as-pointed [] row some = absurd (omega (arith, some))
+as-pointed (extent ∷ extents) row some = refl
 
 -- a row behind others is one of some
 pub some-rows : (above : List (List Text)) (cells : List Text) → true ≡ nat_lt 0 (length (above ++ cells ∷ []))
@@ -359,55 +374,62 @@ handed-on found (Err told) is memory fault same = let e : told ≡ fault = cc in
 
 -- ---- rows with a ruler below them
 
--- the ruler of a row is as long as the row, whatever is shown of it
-ruler-shown : (f : Text → Text) (rows : List (List Text)) → ruler_of (slice_index_or (map (map f) rows) 0 []) ≡ ruler_of (slice_index_or rows 0 [])
-ruler-shown f [] = refl
-ruler-shown f (row ∷ rows) = map-map (λ (field : Text). 48 ∷ []) f row
-
 -- the texts of rows that are shown, and of the ruler below them
-pub measured-texts : (options : Options) (places : List (Option ℕ)) (rows : List (List Text)) (measured : List Row)
-    → map fields_of measured ≡ map (map (shown_text options)) rows ++ ruler_of (slice_index_or (map (map (shown_text options)) rows) 0 []) ∷ []
-    → texts_at places measured ≡ map (shown_row options places) rows ++ fields_at places (ruler_of (slice_index_or rows 0 [])) ∷ []
-measured-texts options places rows measured are =
+pub measured-texts : (options : Options) (places : List (Option ℕ)) (rows : List (List Text)) (ruler : List Text) (measured : List Row)
+    → map fields_of measured ≡ map (map (shown_text options)) rows ++ ruler ∷ [] → texts_at places measured ≡ map (shown_row options places) rows ++ fields_at places ruler ∷ []
+measured-texts options places rows ruler measured are =
     let shown : List (List Text) = map (map (shown_text options)) rows in
     sym (map-map (fields_at places) fields_of measured)
     ∙ ap (map (fields_at places)) are
-    ∙ map-append (fields_at places) shown (ruler_of (slice_index_or shown 0 []) ∷ [])
-    ∙ ap₂ (λ (xs : List (List Text)) (row : List Text). xs ++ fields_at places row ∷ []) (rows-shown options places rows) (ruler-shown (shown_text options) rows)
+    ∙ map-append (fields_at places) shown (ruler ∷ [])
+    ∙ ap (λ (xs : List (List Text)). xs ++ fields_at places ruler ∷ []) (rows-shown options places rows)
 
 -- ---- rows and the ruler below them, as they are lent
 
 -- of rows whose texts are shown as they stand
-pub ruled : (options : Options) (rows : List Row) (ruler : Row) (measured : List Row) → map (map (shown_text options)) (map fields_of rows) ≡ map fields_of rows → fields_of ruler ≡ ruler_of (slice_index_or (map fields_of rows) 0 [])
-    → measured ≡ rows ++ ruler ∷ [] → map fields_of measured ≡ map (map (shown_text options)) (map fields_of rows) ++ ruler_of (slice_index_or (map (map (shown_text options)) (map fields_of rows)) 0 []) ∷ []
-ruled options rows ruler measured stand is are =
+pub ruled : (options : Options) (rows : List Row) (ruler : Row) (measured : List Row) → map (map (shown_text options)) (map fields_of rows) ≡ map fields_of rows
+    → measured ≡ rows ++ ruler ∷ [] → map fields_of measured ≡ map (map (shown_text options)) (map fields_of rows) ++ fields_of ruler ∷ []
+ruled options rows ruler measured stand are =
     ap (map fields_of) are
     ∙ map-append fields_of rows (ruler ∷ [])
-    ∙ ap (λ (row : List Text). map fields_of rows ++ row ∷ []) is
-    ∙ sym (ap (λ (xs : List (List Text)). xs ++ ruler_of (slice_index_or xs 0 []) ∷ []) stand)
+    ∙ sym (ap (λ (xs : List (List Text)). xs ++ fields_of ruler ∷ []) stand)
+
+-- the extents of their fields
+pub extents-lent : (options : Options) (rows : List Row) (places lent : List (Option ℕ)) (extents : List Extent) → lent ≡ places → places ≡ places_in options (map fields_of rows)
+    → extents ≡ extents_of options lent (texts_at lent rows) (length (slice_index_or (map fields_of rows) 0 [])) → extents ≡ extents_in options (map fields_of rows)
+extents-lent options rows places lent extents also at are =
+    let fields : ℕ = length (slice_index_or (map fields_of rows) 0 []) in
+    let own : List (Option ℕ) = places_in options (map fields_of rows) in
+    are
+    ∙ ap (λ (ps : List (Option ℕ)). extents_of options ps (texts_at ps rows) fields) (also ∙ at)
+    ∙ ap (λ (texts : List (List Text)). extents_of options own texts fields) (sym (map-map (fields_at own) fields_of rows))
 
 pub but-last-map : {X Y : Type 0} (f : X → Y) (xs : List X) → map f (but_last xs) ≡ but_last (map f xs)
 but-last-map f xs = sym (take-map f (length xs - 1) xs) ∙ ap (λ (n : ℕ). take (n - 1) (map f xs)) (sym (length-map xs f))
 
 -- the plan that is made of its parts
-pub plan-made : (options : Options) (places : List (Option ℕ)) (note below : Text) (measured rows : List (List Text)) (config : Config) (width : ℕ → ℕ) → rows ≡ but_last measured → config ≡ first_config options rows
-    → width ≡ widths_of options config measured → below ≡ note → plan_of places config width below ≡ plan_by options places note measured
-plan-made options places note below measured rows config width above looks wide same =
+pub plan-made : (options : Options) (extents : List Extent) (places : List (Option ℕ)) (note below : Text) (measured rows : List (List Text)) (config : Config) (width : ℕ → ℕ) → rows ≡ but_last measured → config ≡ first_config options rows
+    → width ≡ widths_of options config measured → below ≡ note → plan_of places config width below extents ≡ plan_by options extents places note measured
+plan-made options extents places note below measured rows config width above looks wide same =
     let config-is : config ≡ first_config options (but_last measured) = looks ∙ ap (first_config options) above in
-    ap (plan_of places config width) same
-    ∙ ap₂ (λ (c : Config) (w : ℕ → ℕ). plan_of places c w note) config-is (wide ∙ ap (λ (c : Config). widths_of options c measured) config-is)
+    ap (λ (n : Text). plan_of places config width n extents) same
+    ∙ ap₂ (λ (c : Config) (w : ℕ → ℕ). plan_of places c w note extents) config-is (wide ∙ ap (λ (c : Config). widths_of options c measured) config-is)
 
-module _ (options : Options) (rows : List (List Text)) (places : List (Option ℕ)) (measured : List Row) (at : places ≡ places_in options rows)
-    (are : map fields_of measured ≡ map (map (shown_text options)) rows ++ ruler_of (slice_index_or (map (map (shown_text options)) rows) 0 []) ∷ []) where
+module _ (options : Options) (rows : List (List Text)) (places : List (Option ℕ)) (extents : List Extent) (ruler : List Text) (measured : List Row) (at : places ≡ places_in options rows)
+    (long : extents ≡ extents_in options rows) (is : ruler ≡ ruler_of extents (length (slice_index_or rows 0 []))) (are : map fields_of measured ≡ map (map (shown_text options)) rows ++ ruler ∷ []) where
   -- the texts of both
   lent-measured : texts_at places measured ≡ measured_in options rows
   lent-measured =
-      measured-texts options places rows measured are
-      ∙ ap (λ (ps : List (Option ℕ)). map (shown_row options ps) rows ++ fields_at ps (ruler_of (slice_index_or rows 0 [])) ∷ []) at
+      let fields : ℕ = length (slice_index_or rows 0 []) in
+      measured-texts options places rows ruler measured are
+      ∙ ap (λ (r : List Text). map (shown_row options places) rows ++ fields_at places r ∷ []) (is ∙ ap (λ (es : List Extent). ruler_of es fields) long)
+      ∙ ap (λ (ps : List (Option ℕ)). map (shown_row options ps) rows ++ fields_at ps (ruler_of (extents_in options rows) fields) ∷ []) at
 
   -- their layout, and what is wrong with their sizes
-  pub layout-lent : layout_by options places (texts_at places measured) ≡ layout_of options rows
-  layout-lent = ap₂ (layout_by options) at lent-measured
+  pub layout-lent : layout_by options places (texts_at places measured) extents ≡ layout_of options rows
+  layout-lent =
+      ap₂ (λ (ps : List (Option ℕ)) (texts : List (List Text)). layout_by options ps texts extents) at lent-measured
+      ∙ ap (layout_by options (places_in options rows) (measured_in options rows)) long
 
   pub sizes-lent : sizes_fault_by options places (texts_at places measured) ≡ sizes_fault_by options (places_in options rows) (measured_in options rows)
   sizes-lent = ap₂ (sizes_fault_by options) at lent-measured
@@ -422,8 +444,8 @@ module _ (options : Options) (places : List (Option ℕ)) (measured : List (List
     none : nat_lt (shown_columns options measured (length places)) (length places) ≡ false
     none = rw stays (grind (arith, nat_tests, all, many))
 
-    pub all-laid : plan_by options places [] measured ≡ layout_by options places measured
-    all-laid = rw none refl
+    pub all-laid : (extents : List Extent) → plan_by options extents places [] measured ≡ layout_by options places measured extents
+    all-laid extents = rw none refl
 
     pub all-fault : plan_fault options measured ≡ sizes_fault_by options places measured
     all-fault = rw none refl
@@ -432,9 +454,9 @@ module _ (options : Options) (places : List (Option ℕ)) (measured : List (List
     some : nat_lt (shown_columns options measured (length places)) (length places) ≡ true
     some = rw stays (grind (arith, nat_tests, few, many))
 
-    pub some-laid : plan_by options (abridged shown None places) (note_of columns shown) (map (abridged shown ellipsis) measured) ≡ layout_by options places measured
-    some-laid =
-        ap₂ (λ (s c : ℕ). plan_by options (abridged s None places) (note_of c s) (map (abridged s ellipsis) measured)) (sym stays) many
+    pub some-laid : (extents : List Extent) → plan_by options extents (abridged shown None places) (note_of columns shown) (map (abridged shown ellipsis) measured) ≡ layout_by options places measured extents
+    some-laid extents =
+        ap₂ (λ (s c : ℕ). plan_by options extents (abridged s None places) (note_of c s) (map (abridged s ellipsis) measured)) (sym stays) many
         ∙ rw some refl
 
     pub some-fault : plan_fault options (map (abridged shown ellipsis) measured) ≡ sizes_fault_by options places measured

@@ -15,29 +15,27 @@ use Rattle.ruled_table.specs.Faults.{totals_of}
 use Rattle.ruled_table.specs.LentRows.{fields_at}
 use Rattle.ruled_table.specs.Omitted.{abridged, note_of, shown_columns}
 use Rattle.ruled_table.specs.Plans.{Plan, plan_of, with_colors}
+use Rattle.ruled_table.specs.Points.{extents_of, pointed_row, ruler_of}
 use Rattle.ruled_table.specs.Shown.{color_at, shown_row}
 use Rattle.ruled_table.specs.Widths.{first_config, row_within, widths_fault, widths_of}
 use Rattle.ruled_table.specs.declared.fault.ViewFault.{ViewFault}
 use Rattle.ruled_table.specs.declared.fault.ViewFault.TheVariants.{Totals}
 use Rattle.ruled_table.specs.declared.options.Options.{Options}
+use Rattle.ruled_table.specs.declared.points.Extent.{Extent}
 
 -- ---- what the first rows say
-
--- a row of one character in each field of this one
-abbrev pub ruler_of : List Text → List Text
-ruler_of row = map (λ field. 48 ∷ []) row
 
 -- the others of a list
 abbrev pub but_last : {X : Type 0} → List X → List X
 but_last xs = take (length xs - 1) xs
 
--- Texts of columns with these places, of which the last row isn't drawn, and the line below their table. All columns are drawn.
-module _ (options : Options) (places : List (Option ℕ)) (note : Text) (measured : List (List Text)) where
+-- Texts of columns with these places, of which the last row isn't drawn, the extents of their fields, and the line below their table. All columns are drawn.
+module _ (options : Options) (extents : List Extent) (places : List (Option ℕ)) (note : Text) (measured : List (List Text)) where
   abbrev pub config_by : Config
   config_by = first_config options (but_last measured)
 
   abbrev pub plan_by : Plan
-  plan_by = plan_of places config_by (widths_of options config_by measured) note
+  plan_by = plan_of places config_by (widths_of options config_by measured) note extents
 
 -- their sizes are too large
 abbrev pub plan_fault : Options → List (List Text) → Option ViewFault
@@ -48,11 +46,11 @@ module _ (options : Options) (places : List (Option ℕ)) (measured : List (List
   abbrev pub shown_in : ℕ
   shown_in = shown_columns options measured (length places)
 
-  abbrev pub layout_by : Plan
-  layout_by =
+  abbrev pub layout_by : List Extent → Plan
+  layout_by extents =
       if nat_lt shown_in (length places)
-      then plan_by options (abridged shown_in None places) (note_of (length places) shown_in) (map (abridged shown_in ellipsis) measured)
-      else plan_by options places [] measured
+      then plan_by options extents (abridged shown_in None places) (note_of (length places) shown_in) (map (abridged shown_in ellipsis) measured)
+      else plan_by options extents places [] measured
 
   abbrev pub sizes_fault_by : Option ViewFault
   sizes_fault_by = if nat_lt shown_in (length places) then plan_fault options (map (abridged shown_in ellipsis) measured) else plan_fault options measured
@@ -65,12 +63,16 @@ module _ (options : Options) (first : List (List Text)) where
   abbrev pub texts_in : List (List Text)
   texts_in = map (shown_row options places_in) first
 
-  -- with one row more below them that has a character in each column: so each column has room for one
+  -- the extents of their fields
+  abbrev pub extents_in : List Extent
+  extents_in = extents_of options places_in (map (fields_at places_in) first) (length (slice_index_or first 0 []))
+
+  -- with a ruler below them
   abbrev pub measured_in : List (List Text)
-  measured_in = texts_in ++ fields_at places_in (ruler_of (slice_index_or first 0 [])) ∷ []
+  measured_in = texts_in ++ fields_at places_in (ruler_of extents_in (length (slice_index_or first 0 []))) ∷ []
 
   abbrev pub layout_of : Plan
-  layout_of = layout_by options places_in measured_in
+  layout_of = layout_by options places_in measured_in extents_in
 
   -- no column has one of the names, or their sizes are too large
   abbrev pub layout_fault : Option ViewFault
@@ -109,7 +111,7 @@ whole_of plan cells = if length cells == 0 then [] else picture Unknown (table_o
 module _ (options : Options) (plan : Plan) (rows : List (List Text)) where
   -- the texts that are shown of rows, and their cells
   abbrev pub texts_by : List (List Text)
-  texts_by = map (shown_row options plan.places) rows
+  texts_by = map (shown_row options plan.places) (map (pointed_row plan.extents) rows)
 
   abbrev pub cells_of : List (List Text)
   cells_of = cells_within options.bounds.overflow plan texts_by

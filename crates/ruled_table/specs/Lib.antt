@@ -11,6 +11,7 @@ pub mod Numbers
 pub mod Omitted
 pub mod Order
 pub mod Plans
+pub mod Points
 pub mod Ranges
 pub mod RowLines
 pub mod Shown

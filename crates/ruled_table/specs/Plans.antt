@@ -7,19 +7,21 @@ use Rattle.pg_layout.specs.declared.position.Position.{Position}
 use Rattle.pg_config.specs.Config.{Config}
 use Rattle.ruled_table.specs.declared.options.Vertical.{Vertical}
 use Rattle.ruled_table.specs.declared.options.Vertical.TheVariants.{Always, IfOmitting, Never}
+use Rattle.ruled_table.specs.declared.points.Extent.{Extent}
 
--- the columns by their places in a row, what the table looks like, how wide its columns are, the line below it, and the
--- colours of its texts
+-- the columns by their places in a row, what the table looks like, how wide its columns are, the line below it, the extents
+-- of fields whose points are below one another, and the colours of its texts
 pub record Plan : Type 0 where
   pub places : List (Option ℕ)
   pub config : Config
   pub width : ℕ → ℕ
   pub note : Text
+  pub extents : List Extent
   pub color : Position → Option Color
 
 -- without colours
-abbrev pub plan_of : List (Option ℕ) → Config → (ℕ → ℕ) → Text → Plan
-plan_of places config width note = record { places = places; config = config; width = width; note = note; color = λ place. None }
+abbrev pub plan_of : List (Option ℕ) → Config → (ℕ → ℕ) → Text → List Extent → Plan
+plan_of places config width note extents = record { places = places; config = config; width = width; note = note; extents = extents; color = λ place. None }
 
 abbrev pub with_colors : (Position → Option Color) → Plan → Plan
 with_colors color plan = record plan { color = color }
@@ -45,6 +47,7 @@ pub record Measures : Type 0 where
   pub config : Config
   pub widths : List ℕ
   pub note : Text
+  pub extents : List Extent
 
 abbrev pub plan_in : Measures → Plan
-plan_in measures = plan_of measures.places measures.config (λ column. slice_index_or measures.widths column 0) measures.note
+plan_in measures = plan_of measures.places measures.config (λ column. slice_index_or measures.widths column 0) measures.note measures.extents

@@ -9,6 +9,7 @@ use Rattle.pg_stream.specs.Printing.{Printing, after_row, row_text}
 use Rattle.ruled_table.specs.Faults.{is_memory}
 use Rattle.ruled_table.specs.Layouts.{cells_of, heights_of, start_of}
 use Rattle.ruled_table.specs.Plans.{Plan}
+use Rattle.ruled_table.specs.Points.{pointed_row}
 use Rattle.ruled_table.specs.Shown.{color_in, shown_row}
 use Rattle.ruled_table.specs.Widths.{row_within}
 use Rattle.ruled_table.specs.declared.colors.TextColors.{TextColors}
@@ -73,7 +74,7 @@ HasNoRoomBelow plan above cells = ¬ (RowFits (after_rows (start_of plan (height
 
 -- this row has no room below those above it
 abbrev pub HasNoRoom : Options → Plan → List (List Text) → List Text → Type 0
-HasNoRoom options plan above row = HasNoRoomBelow plan (cells_of options plan above) (row_within options.bounds.overflow plan.width (shown_row options plan.places row))
+HasNoRoom options plan above row = HasNoRoomBelow plan (cells_of options plan above) (row_within options.bounds.overflow plan.width (shown_row options plan.places (pointed_row plan.extents row)))
 
 -- ---- as contracts see it
 

@@ -1,5 +1,5 @@
 -- At which side of its cells the texts of a column stand.
-use Rattle.std.specs.Prelude.{ℕ, ◌||◌, Bool, List, [], drop, slice_index_or, fold, string_bytes, unwrap_or, if◌then◌else◌}
+use Rattle.std.specs.Prelude.{ℕ, ◌||◌, Bool, List, [], drop, slice_index_or, fold, string_bytes, Option, Some, None, if◌then◌else◌}
 use Rattle.std.specs.List.{list_all, list_any, range_with_len}
 use Rattle.std.specs.Str.{bytes_eq}
 use Rattle.pg_layout.specs.Records.{columns_of}
@@ -12,6 +12,8 @@ use Rattle.pg_config.specs.Settings.{Settings, with_setting}
 use Rattle.ruled_table.specs.Columns.{told_of}
 use Rattle.ruled_table.specs.Numbers.{gap, is_blank, is_number}
 use Rattle.ruled_table.specs.declared.options.Options.{Options}
+use Rattle.ruled_table.specs.declared.options.Side.{Side}
+use Rattle.ruled_table.specs.declared.options.Side.TheVariants.{To, Point}
 
 -- ---- columns of numbers
 
@@ -33,10 +35,14 @@ is_numeric options rows column = list_all (λ row. is_numeric_text options (slic
 
 -- ---- sides
 
--- where nothing is said, numbers stand at the right
+-- where nothing else is said, numbers stand at the right
+abbrev pub side_by : Option Side → Bool → AlignmentHorizontal
+side_by None numeric = if numeric then Right else Left
+side_by (Some (To side)) numeric = side
+side_by (Some Point) numeric = if numeric then Right else Left
+
 abbrev pub side_of : Options → List (List Text) → ℕ → AlignmentHorizontal
-side_of options rows column =
-    unwrap_or (told_of options.sides.items column) (if is_numeric options (body_of options.has_header rows) column then Right else Left)
+side_of options rows column = side_by (told_of options.sides.items column) (is_numeric options (body_of options.has_header rows) column)
 
 -- ---- their settings
 

@@ -1,6 +1,6 @@
 //! What the first rows of a table determine for all its rows.
 
-ghost use Rattle.std.specs.Prelude.{◌≡◌, ◌++◌, ◌∷◌, [], map, slice_index_or, string_bytes, take, true, IfOk};
+ghost use Rattle.std.specs.Prelude.{◌≡◌, map, string_bytes, take, true, IfOk};
 ghost use Rattle.csv.specs.Records.{fields_of};
 ghost use Rattle.ruled_table.specs.Faults.{Tells};
 ghost use Rattle.ruled_table.specs.Layouts as spec;
@@ -14,13 +14,14 @@ use crate::fault::ViewFault;
 use crate::lent_rows::LentRows;
 use crate::omission::{abridge, note_of, shown_columns};
 use crate::options::{Options, Vertical};
+use crate::points::{Extent, extents_of, fields_in, ruler_of};
 use crate::rows::{all_stand, shown_records};
 use crate::widths::{first_config, sizes_of_rows};
 use csv::StringRecord;
 use pg_config::SpannedConfig;
 use pg_layout::ConstantDimension;
 use pg_picture::fits::full_width;
-use std::alloc::{AllocError, Global};
+use std::alloc::Global;
 use std::marker::Model;
 
 /// What the first rows of a table determine for all its rows: the shown columns, their look and
@@ -33,6 +34,8 @@ pub struct Layout {
     /// The line below the table, with its line feed: how many columns there are, and how many are
     /// shown. It is empty if all are.
     pub(crate) note: String,
+    /// The extents of the fields if points are below one another in some of their columns, else none.
+    pub(crate) extents: Vec<Extent>,
 }
 
 impl Model for Layout {
@@ -41,40 +44,9 @@ impl Model for Layout {
 
     ghost Value = { Measures };
 
-    ghost view = { λ l. record { places = l.places.items; config = l.config; widths = l.widths.0.items; note = string_bytes l.note } };
+    ghost view = { λ l. record { places = l.places.items; config = l.config; widths = l.widths.0.items; note = string_bytes l.note; extents = l.extents.items } };
 
     ghost invariant = { λ l. l.config.spans ≡ [] };
-}
-
-// A row of one character in each field of this one.
-fn ruler_of(alloc: Global, fields: &StringRecord) -> Result<StringRecord, AllocError>
-    ensures { IfOk result (λ ruler. fields_of ruler ≡ spec.ruler_of (fields_of fields.now)) }
-{
-    let mut ruler = StringRecord::new(alloc);
-    for place in 0..fields.len() {
-        ruler.push_field("0")?;
-    }
-    Ok(ruler)
-}
-
-// The ruler of the first of these rows.
-fn first_ruler(alloc: Global, rows: &[StringRecord]) -> Result<StringRecord, AllocError>
-    ensures { IfOk result (λ ruler. fields_of ruler ≡ spec.ruler_of (slice_index_or (map fields_of rows.now) 0 [])) }
-{
-    match rows {
-        [fields, ..] => ruler_of(alloc, fields),
-        [] => Ok(StringRecord::new(alloc)),
-    }
-}
-
-// Rows with a ruler below them, in which each column has one character.
-fn with_ruler(alloc: Global, rows: Vec<StringRecord>) -> Result<Vec<StringRecord>, AllocError>
-    ensures { IfOk result (λ measured. map fields_of measured.items ≡ map fields_of rows.items ++ spec.ruler_of (slice_index_or (map fields_of rows.items) 0 []) ∷ []) }
-{
-    let ruler = first_ruler(alloc, &rows)?;
-    let mut measured = rows;
-    measured.push(ruler)?;
-    Ok(measured)
 }
 
 // The rows above the ruler.
@@ -174,10 +146,15 @@ impl Layout {
     {
         let first = first_of(rows, count);
         let places = places_of(alloc, &options.columns, first)?;
-        let ruler = first_ruler(alloc, first)?;
+        let lent = LentRows {
+            records: first,
+            places: &places,
+        };
+        let extents = extents_of(alloc, options, lent)?;
+        let ruler = ruler_of(alloc, &extents, fields_in(first))?;
         let end = first.len();
         rows.insert(end, ruler)?;
-        let layout = Layout::of_measured(alloc, options, places, first_of(rows, end + 1));
+        let layout = Layout::of_measured(alloc, options, places, extents, first_of(rows, end + 1));
         rows.remove(end);
         layout
     }
@@ -192,21 +169,28 @@ impl Layout {
         ensures fault { Tells (spec.layout_fault options.now (map fields_of first.now)) result }
     {
         let places = places_of(alloc, &options.columns, first)?;
+        let lent = LentRows {
+            records: first,
+            places: &places,
+        };
+        let extents = extents_of(alloc, options, lent)?;
+        let ruler = ruler_of(alloc, &extents, fields_in(first))?;
         let copies = Vec::from_clones(alloc, first)?;
-        let shown = shown_records(alloc, options, copies)?;
-        let measured = with_ruler(alloc, shown)?;
-        Layout::of_measured(alloc, options, places, &measured)
+        let mut measured = shown_records(alloc, options, copies)?;
+        measured.push(ruler)?;
+        Layout::of_measured(alloc, options, places, extents, &measured)
     }
 
     // The layout of rows of which the last one is a ruler, by the places of their columns, some of
-    // which may be left out.
+    // which may be left out, and the extents of their fields.
     fn of_measured(
         alloc: Global,
         options: &Options,
         mut places: Vec<Option<usize>>,
+        extents: Vec<Extent>,
         measured: &[StringRecord],
     ) -> Result<Layout, ViewFault>
-        ensures layout { IfOk result (λ layout. plan_in layout ≡ spec.layout_by options.now places.items (texts_at places.items measured.now)) }
+        ensures layout { IfOk result (λ layout. plan_in layout ≡ spec.layout_by options.now places.items (texts_at places.items measured.now) extents.items) }
         ensures fault { Tells (spec.sizes_fault_by options.now places.items (texts_at places.items measured.now)) result }
     {
         let columns = places.len();
@@ -216,23 +200,31 @@ impl Layout {
         };
         let shown = shown_columns(alloc, options, rows)?;
         if shown >= columns {
-            return Layout::of_columns(alloc, options, places, String::new(alloc), measured);
+            return Layout::of_columns(
+                alloc,
+                options,
+                places,
+                extents,
+                String::new(alloc),
+                measured,
+            );
         }
         let note = note_of(alloc, columns, shown)?;
         abridge(&mut places, shown);
-        Layout::of_columns(alloc, options, places, note, measured)
+        Layout::of_columns(alloc, options, places, extents, note, measured)
     }
 
     // The layout of rows of which the last one is a ruler, by the places of the columns that are
-    // drawn, with this line below them.
+    // drawn, with the extents of their fields and this line below them.
     fn of_columns(
         alloc: Global,
         options: &Options,
         places: Vec<Option<usize>>,
+        extents: Vec<Extent>,
         note: String,
         measured: &[StringRecord],
     ) -> Result<Layout, ViewFault>
-        ensures layout { IfOk result (λ layout. plan_in layout ≡ spec.plan_by options.now places.items (string_bytes note) (texts_at places.items measured.now)) }
+        ensures layout { IfOk result (λ layout. plan_in layout ≡ spec.plan_by options.now extents.items places.items (string_bytes note) (texts_at places.items measured.now)) }
         ensures fault { Tells (spec.plan_fault options.now (texts_at places.items measured.now)) result }
     {
         let rows = LentRows {
@@ -250,6 +242,7 @@ impl Layout {
             config,
             widths,
             note,
+            extents,
         })
     }
 }

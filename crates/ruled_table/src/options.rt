@@ -28,6 +28,16 @@ impl Vertical {
     }
 }
 
+/// How the texts of a column are aligned.
+#[derive(Clone, Copy)]
+pub enum Side {
+    /// At this side.
+    To(AlignmentHorizontal),
+    /// As without a side, but with the points of numbers below one another if the column has numbers: each has
+    /// spaces behind it if others have more characters behind their whole parts, as far as there is room.
+    Point,
+}
+
 /// A column by which rows are sorted.
 #[derive(Drop)]
 pub struct Sort {
@@ -50,7 +60,7 @@ pub struct Options {
     /// The alignment of each shown column; one alone is for all. A column without one, or with
     /// `None`, is right-aligned if each text below the header is a number, blank, `⋮` or one of `missing`, else
     /// left-aligned.
-    pub sides: Vec<Option<AlignmentHorizontal>>,
+    pub sides: Vec<Option<Side>>,
     /// Texts that count as blank when the side of a column is chosen.
     pub missing: Vec<String>,
     /// Row 0, which is in front of all rows of the input, with an empty name for each further column of their first one.

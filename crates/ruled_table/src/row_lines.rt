@@ -191,6 +191,7 @@ impl<'a> RowLines<'a> {
             config,
             widths,
             note,
+            ..
         } = layout;
         let sheet = SizedStream::new(alloc, config, widths, colors, places.len())?;
         Ok(RowLines {

@@ -10,7 +10,7 @@ ghost use Rattle.ruled_table.specs.Sides as spec;
 use crate::columns::told_of;
 use crate::lent_rows::{LentRows, text_in};
 use crate::numbers::{GAP, is_blank, is_number};
-use crate::options::Options;
+use crate::options::{Options, Side};
 use csv::StringRecord;
 use pg_config::SpannedConfig;
 use pg_layout::{AlignmentHorizontal, Entity, Records};
@@ -83,9 +83,9 @@ fn side_of(options: &Options, rows: LentRows<'_>, column: usize) -> AlignmentHor
         places: rows.places,
     };
     match told_of(&options.sides, column) {
-        Some(side) => side,
-        None if is_numeric(options, body, column) => AlignmentHorizontal::Right,
-        None => AlignmentHorizontal::Left,
+        Some(Side::To(side)) => side,
+        _ if is_numeric(options, body, column) => AlignmentHorizontal::Right,
+        _ => AlignmentHorizontal::Left,
     }
 }
 

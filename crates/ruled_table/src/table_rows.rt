@@ -11,6 +11,7 @@ ghost use Rattle.ruled_table.specs.Columns.{drawn_at};
 ghost use Rattle.ruled_table.specs.Faults.{Tells};
 ghost use Rattle.ruled_table.specs.Layouts.{start_fault, whole_text};
 ghost use Rattle.ruled_table.specs.Plans.{Plan, plan_in, with_colors};
+ghost use Rattle.ruled_table.specs.Points.{pointed_row};
 ghost use Rattle.ruled_table.specs.RowLines.{GrowsTo, HasNoRoom, TellsRoom, begun_text};
 ghost use Rattle.ruled_table.specs.Shown.{color_in, shown_row, shown_text};
 ghost use Rattle.ruled_table.specs.Widths as spec;
@@ -23,6 +24,7 @@ use crate::columns::{drawn_at, field_at};
 use crate::fault::ViewFault;
 use crate::layout::Layout;
 use crate::options::Options;
+use crate::points::pointed_record;
 use crate::row_lines::RowLines;
 use crate::rows::{is_plain_record, shown_text, stands};
 use crate::widths::{lent_within, room_of};
@@ -153,13 +155,14 @@ impl<'a> TableRows<'a> {
         })
     }
 
-    // Appends the lines of a row.
-    fn push_row(&mut self, fields: &StringRecord, buf: &mut String) -> Result<(), ViewFault>
-        ensures lines { (options : Options) (plan : Plan) (rows : List (List Text)) → HasAppended options plan rows self.old
-            → OnOk result (GrowsTo (begun_text options plan rows) (begun_text options plan (rows ++ fields_of fields.now ∷ [])) (string_bytes buf.old) (string_bytes buf.new)) }
-        ensures after { (options : Options) (plan : Plan) (rows : List (List Text)) → HasAppended options plan rows self.old
-            → OnOk result (HasAppended options plan (rows ++ fields_of fields.now ∷ []) self.new) }
-        ensures room { (options : Options) (plan : Plan) (rows : List (List Text)) → HasAppended options plan rows self.old → TellsRoom (HasNoRoom options plan rows (fields_of fields.now)) result }
+    // Appends the lines of a row, of which these are the fields with spaces behind numbers.
+    fn push_pointed(&mut self, fields: &StringRecord, buf: &mut String) -> Result<(), ViewFault>
+        ensures lines { (options : Options) (plan : Plan) (rows : List (List Text)) (row : List Text) → HasAppended options plan rows self.old → fields_of fields.now ≡ pointed_row plan.extents row
+            → OnOk result (GrowsTo (begun_text options plan rows) (begun_text options plan (rows ++ row ∷ [])) (string_bytes buf.old) (string_bytes buf.new)) }
+        ensures after { (options : Options) (plan : Plan) (rows : List (List Text)) (row : List Text) → HasAppended options plan rows self.old → fields_of fields.now ≡ pointed_row plan.extents row
+            → OnOk result (HasAppended options plan (rows ++ row ∷ []) self.new) }
+        ensures room { (options : Options) (plan : Plan) (rows : List (List Text)) (row : List Text) → HasAppended options plan rows self.old → fields_of fields.now ≡ pointed_row plan.extents row
+            → TellsRoom (HasNoRoom options plan rows row) result }
         ensures failed { OnErr result (string_bytes buf.new ≡ string_bytes buf.old) }
         ensures over { self.new.is_over ≡ self.old.is_over }
     {
@@ -171,6 +174,24 @@ impl<'a> TableRows<'a> {
         }
         let cells = cells_shown(self.alloc, self.options, places, widths, fields)?;
         self.rows.push(cells, buf)
+    }
+
+    // Appends the lines of a row.
+    fn push_row(&mut self, fields: &StringRecord, buf: &mut String) -> Result<(), ViewFault>
+        ensures lines { (options : Options) (plan : Plan) (rows : List (List Text)) → HasAppended options plan rows self.old
+            → OnOk result (GrowsTo (begun_text options plan rows) (begun_text options plan (rows ++ fields_of fields.now ∷ [])) (string_bytes buf.old) (string_bytes buf.new)) }
+        ensures after { (options : Options) (plan : Plan) (rows : List (List Text)) → HasAppended options plan rows self.old
+            → OnOk result (HasAppended options plan (rows ++ fields_of fields.now ∷ []) self.new) }
+        ensures room { (options : Options) (plan : Plan) (rows : List (List Text)) → HasAppended options plan rows self.old → TellsRoom (HasNoRoom options plan rows (fields_of fields.now)) result }
+        ensures failed { OnErr result (string_bytes buf.new ≡ string_bytes buf.old) }
+        ensures over { self.new.is_over ≡ self.old.is_over }
+    {
+        let layout = self.layout;
+        if layout.extents.is_empty() {
+            return self.push_pointed(fields, buf);
+        }
+        let pointed = pointed_record(self.alloc, &layout.extents, fields)?;
+        self.push_pointed(&pointed, buf)
     }
 
     /// Appends the lines of a row, each with a line feed after it.

@@ -20,7 +20,7 @@ told width plan height line is = ap (option_and_then (λ line. if nat_lt width l
 
 pub returns-in_err-line : goal.returns-in_err-line
 returns-in_err-line c =
-    let inside : Measures = record { places = c.self.inside.places.items; config = c.self.inside.config; widths = c.self.inside.widths.0.items; note = string_bytes c.self.inside.note } in
+    let inside : Measures = record { places = c.self.inside.places.items; config = c.self.inside.config; widths = c.self.inside.widths.0.items; note = string_bytes c.self.inside.note; extents = c.self.inside.extents.items } in
     let tall : ℕ → ℕ = λ row. slice_index_or c.self.inside.widths.1.items row 0 in
     let count : c.len.result ≡ length inside.places = omega (arith, c.len.ensures, c.self.inside.places.ok) in
     let none : c.full_width.result ≡ None = search rules in
@@ -32,7 +32,7 @@ returns-in_err-line c =
 
 pub returns-then-line-width : goal.returns-then-line-width
 returns-then-line-width c =
-    let inside : Measures = record { places = c.self.inside.places.items; config = c.self.inside.config; widths = c.self.inside.widths.0.items; note = string_bytes c.self.inside.note } in
+    let inside : Measures = record { places = c.self.inside.places.items; config = c.self.inside.config; widths = c.self.inside.widths.0.items; note = string_bytes c.self.inside.note; extents = c.self.inside.extents.items } in
     let tall : ℕ → ℕ = λ row. slice_index_or c.self.inside.widths.1.items row 0 in
     let count : c.len.result ≡ length inside.places = omega (arith, c.len.ensures, c.self.inside.places.ok) in
     let some : c.full_width.result ≡ Some c.in_ok-line.line = search rules in
@@ -44,7 +44,7 @@ returns-then-line-width c =
 
 pub returns-else-line-width : goal.returns-else-line-width
 returns-else-line-width c =
-    let inside : Measures = record { places = c.self.inside.places.items; config = c.self.inside.config; widths = c.self.inside.widths.0.items; note = string_bytes c.self.inside.note } in
+    let inside : Measures = record { places = c.self.inside.places.items; config = c.self.inside.config; widths = c.self.inside.widths.0.items; note = string_bytes c.self.inside.note; extents = c.self.inside.extents.items } in
     let tall : ℕ → ℕ = λ row. slice_index_or c.self.inside.widths.1.items row 0 in
     let count : c.len.result ≡ length inside.places = omega (arith, c.len.ensures, c.self.inside.places.ok) in
     let some : c.full_width.result ≡ Some c.in_ok-line.line = search rules in

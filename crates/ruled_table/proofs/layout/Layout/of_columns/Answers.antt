@@ -31,7 +31,7 @@ returns-clause-layout c =
     let wide : widths_in c.in_ok-widths.widths ≡ widths_of options config (texts_at places measured) =
     c.in_ok-widths.ensures.widths ∙ ap (λ (ps : List (Option ℕ)). widths_of options config (texts_at ps measured)) also
     in
-    plan-made options places note note (texts_at places measured) (texts_at c.deref.result.now rows) config (widths_in c.in_ok-widths.widths) above c.in_ok-config.ensures wide refl
+    plan-made options c.args.extents.items places note note (texts_at places measured) (texts_at c.deref.result.now rows) config (widths_in c.in_ok-widths.widths) above c.in_ok-config.ensures wide refl
 
 pub returns-clause-fault : goal.returns-clause-fault
 returns-clause-fault c =

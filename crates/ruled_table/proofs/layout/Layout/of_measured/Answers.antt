@@ -9,6 +9,7 @@ use Rattle.ruled_table.specs.Layouts.{plan_by, plan_fault}
 use Rattle.ruled_table.specs.Omitted.{abridged, note_of, shown_columns}
 use Rattle.ruled_table.specs.Plans.{Plan, plan_in}
 use Rattle.ruled_table.specs.declared.fault.ViewFault.{ViewFault}
+use Rattle.ruled_table.specs.declared.points.Extent.{Extent}
 use Rattle.ruled_table.proofs.LentTexts.{rows-abridged}
 use Rattle.ruled_table.proofs.RowsInParts.{all-fault, all-laid, some-fault, some-laid}
 use Rattle.ruled_table.proofs.layout.Layout.of_measured.Goals as goal
@@ -17,12 +18,13 @@ pub returns-then-shown-columns-clause-layout : goal.returns-then-shown-columns-c
 returns-then-shown-columns-clause-layout c =
     let options = c.args.options.now in
     let places : List (Option ℕ) = c.args.places.items in
+    let extents : List Extent = c.args.extents.items in
     let texts : List (List Text) = texts_at places c.args.measured.now in
     let lent : c.deref.result.now ≡ places = search rules in
     let is : c.in_ok-shown.shown ≡ shown_columns options texts (length places) = rw lent at c.in_ok-shown.ensures in
     let none : string_bytes c.new.result ≡ [] = search rules in
-    let laid : IfOk c.of_columns.result (λ layout. plan_in layout ≡ plan_by options places [] texts) = rw none at c.of_columns.ensures.layout in
-    subst (λ (plan : Plan). IfOk c.of_columns.result (λ layout. plan_in layout ≡ plan)) (all-laid options places texts c.in_ok-shown.shown (length places) is refl (omega arith)) laid
+    let laid : IfOk c.of_columns.result (λ layout. plan_in layout ≡ plan_by options extents places [] texts) = rw none at c.of_columns.ensures.layout in
+    subst (λ (plan : Plan). IfOk c.of_columns.result (λ layout. plan_in layout ≡ plan)) (all-laid options places texts c.in_ok-shown.shown (length places) is refl (omega arith) extents) laid
 
 pub returns-then-shown-columns-clause-fault : goal.returns-then-shown-columns-clause-fault
 returns-then-shown-columns-clause-fault c =
@@ -37,6 +39,7 @@ pub returns-clause-layout : goal.returns-clause-layout
 returns-clause-layout c =
     let options = c.args.options.now in
     let places : List (Option ℕ) = c.args.places.items in
+    let extents : List Extent = c.args.extents.items in
     let records : List Row = c.args.measured.now in
     let texts : List (List Text) = texts_at places records in
     let shown : ℕ = c.in_ok-shown.shown in
@@ -45,12 +48,12 @@ returns-clause-layout c =
     let is : shown ≡ shown_columns options texts (length places) = rw lent at c.in_ok-shown.ensures in
     let many : columns ≡ length places = omega (arith, c.len-columns.ensures, c.args.places.ok) in
     let asked : shown ≡ shown_columns options texts columns = is ∙ ap (shown_columns options texts) (sym many) in
-    let drawn : List (Option ℕ) → Text → List (List Text) → Plan = λ places note texts. plan_by options places note texts in
+    let drawn : List (Option ℕ) → Text → List (List Text) → Plan = λ places note texts. plan_by options extents places note texts in
     let same : drawn c.abridge.new.places.items (string_bytes c.in_ok-note.note) (texts_at c.abridge.new.places.items records) ≡ drawn (abridged shown None places) (note_of columns shown) (map (abridged shown ellipsis) texts) =
     ap₂ (λ (ps : List (Option ℕ)) (note : Text). drawn ps note (texts_at ps records)) c.abridge.ensures c.in_ok-note.ensures
     ∙ ap (drawn (abridged shown None places) (note_of columns shown)) (rows-abridged shown places records)
     in
-    subst (λ (plan : Plan). IfOk c.of_columns-2.result (λ layout. plan_in layout ≡ plan)) (same ∙ some-laid options places texts shown columns asked many (omega arith)) c.of_columns-2.ensures.layout
+    subst (λ (plan : Plan). IfOk c.of_columns-2.result (λ layout. plan_in layout ≡ plan)) (same ∙ some-laid options places texts shown columns asked many (omega arith) extents) c.of_columns-2.ensures.layout
 
 pub returns-clause-fault : goal.returns-clause-fault
 returns-clause-fault c =

@@ -1,4 +1,4 @@
-use Rattle.std.proofs.Common.{◌≡◌, ◌≤◌, ◌+◌, ◌∙◌, ◌∷◌, ◌++◌, [], ℕ, zero, suc, List, drop, length, map, take, slice_index_or, None, Option, inl, inr, refl, sym, ap, subst, arith, rules}
+use Rattle.std.proofs.Common.{◌≡◌, ◌≤◌, ◌+◌, ◌∙◌, ◌∷◌, ◌++◌, [], ℕ, zero, suc, List, drop, length, map, take, slice_index_or, None, Option, inl, inr, refl, sym, ap, ap₂, subst, arith, rules}
 use Rattle.std.specs.List.{insert}
 use Rattle.std.specs.Option.{option_or}
 use Rattle.std.specs.Prelude.{IfOk}
@@ -8,10 +8,11 @@ use Rattle.csv.specs.Records.{Row, fields_of}
 use Rattle.pg_layout.specs.Text.{Text}
 use Rattle.ruled_table.specs.Columns.{column_fault}
 use Rattle.ruled_table.specs.Faults.{Tells}
-use Rattle.ruled_table.specs.Layouts.{measured_in, places_in, ruler_of, sizes_fault_by}
+use Rattle.ruled_table.specs.Layouts.{extents_in, measured_in, places_in, sizes_fault_by}
 use Rattle.ruled_table.specs.Plans.{Plan, plan_in}
+use Rattle.ruled_table.specs.Points.{ruler_of}
 use Rattle.ruled_table.specs.declared.fault.ViewFault.{ViewFault}
-use Rattle.ruled_table.proofs.RowsInParts.{layout-lent, ruled, sizes-lent}
+use Rattle.ruled_table.proofs.RowsInParts.{extents-lent, layout-lent, ruled, sizes-lent}
 use Rattle.ruled_table.proofs.layout.Layout.of_standing.Goals as goal
 
 -- the first ones of a list are as many of it
@@ -51,12 +52,18 @@ returns-clause-layout c =
     let ruler : Row = c.in_ok-ruler.ruler in
     let measured : c.first_of.result.now ≡ top ++ ruler ∷ [] =
     c.first_of.ensures
-    ∙ ap (take (i + 1)) (c.deref-3.ensures.value ∙ c.in_ok-insert.ensures.items)
+    ∙ ap (take (i + 1)) (c.deref-5.ensures.value ∙ c.in_ok-insert.ensures.items)
     ∙ insert-front rows i ruler (omega (arith, end, length-take count rows))
     ∙ ap (λ (rs : List Row). rs ++ ruler ∷ []) (ap (λ (k : ℕ). take k rows) end ∙ take-again rows count)
     in
-    let are = ruled options top ruler c.first_of.result.now c.requires (c.in_ok-ruler.ensures ∙ ap (λ (xs : List Row). ruler_of (slice_index_or (map fields_of xs) 0 [])) lent) measured in
-    let same = layout-lent options first c.in_ok-places.places.items c.first_of.result.now at are in
+    let are = ruled options top ruler c.first_of.result.now c.requires measured in
+    let shows : c.deref-3.result.now ≡ c.in_ok-places.places.items = search rules in
+    let long : c.in_ok-extents.extents.items ≡ extents_in options first = extents-lent options top c.in_ok-places.places.items c.deref-3.result.now c.in_ok-extents.extents.items shows at (rw lent at c.in_ok-extents.ensures) in
+    let told : c.deref-4.result.now ≡ c.in_ok-extents.extents.items = search rules in
+    let is : fields_of ruler ≡ ruler_of c.in_ok-extents.extents.items (length (slice_index_or first 0 [])) =
+    c.in_ok-ruler.ensures ∙ ap₂ ruler_of told (c.fields_in.ensures ∙ ap (λ (rs : List Row). length (slice_index_or (map fields_of rs) 0 [])) lent)
+    in
+    let same = layout-lent options first c.in_ok-places.places.items c.in_ok-extents.extents.items (fields_of ruler) c.first_of.result.now at long is are in
     subst (λ (plan : Plan). IfOk c.of_measured-layout.result (λ layout. plan_in layout ≡ plan)) same c.of_measured-layout.ensures.layout
 
 pub returns-clause-fault : goal.returns-clause-fault
@@ -74,15 +81,21 @@ returns-clause-fault c =
     let ruler : Row = c.in_ok-ruler.ruler in
     let measured : c.first_of.result.now ≡ top ++ ruler ∷ [] =
     c.first_of.ensures
-    ∙ ap (take (i + 1)) (c.deref-3.ensures.value ∙ c.in_ok-insert.ensures.items)
+    ∙ ap (take (i + 1)) (c.deref-5.ensures.value ∙ c.in_ok-insert.ensures.items)
     ∙ insert-front rows i ruler (omega (arith, end, length-take count rows))
     ∙ ap (λ (rs : List Row). rs ++ ruler ∷ []) (ap (λ (k : ℕ). take k rows) end ∙ take-again rows count)
     in
-    let are = ruled options top ruler c.first_of.result.now c.requires (c.in_ok-ruler.ensures ∙ ap (λ (xs : List Row). ruler_of (slice_index_or (map fields_of xs) 0 [])) lent) measured in
+    let are = ruled options top ruler c.first_of.result.now c.requires measured in
+    let shows : c.deref-3.result.now ≡ c.in_ok-places.places.items = search rules in
+    let long : c.in_ok-extents.extents.items ≡ extents_in options first = extents-lent options top c.in_ok-places.places.items c.deref-3.result.now c.in_ok-extents.extents.items shows at (rw lent at c.in_ok-extents.ensures) in
+    let told : c.deref-4.result.now ≡ c.in_ok-extents.extents.items = search rules in
+    let is : fields_of ruler ≡ ruler_of c.in_ok-extents.extents.items (length (slice_index_or first 0 [])) =
+    c.in_ok-ruler.ensures ∙ ap₂ ruler_of told (c.fields_in.ensures ∙ ap (λ (rs : List Row). length (slice_index_or (map fields_of rs) 0 [])) lent)
+    in
     let none : column_fault options.columns.items first ≡ None = rw (names, lent) at c.in_ok-places.ensures.fault in
     let sizes : Option ViewFault = sizes_fault_by options (places_in options first) (measured_in options first) in
     let same : sizes_fault_by options c.in_ok-places.places.items _ ≡ option_or (column_fault options.columns.items first) sizes =
-    sizes-lent options first c.in_ok-places.places.items c.first_of.result.now at are ∙ sym (ap (λ (o : Option ViewFault). option_or o sizes) none)
+    sizes-lent options first c.in_ok-places.places.items c.in_ok-extents.extents.items (fields_of ruler) c.first_of.result.now at long is are ∙ sym (ap (λ (o : Option ViewFault). option_or o sizes) none)
     in
     subst (λ (o : Option ViewFault). Tells o c.of_measured-layout.result) same c.of_measured-layout.ensures.fault
 

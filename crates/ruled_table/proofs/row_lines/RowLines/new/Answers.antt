@@ -11,7 +11,7 @@ use Rattle.ruled_table.proofs.row_lines.RowLines.new.Goals as goal
 
 pub returns-in_err-sheet-clause-fault : goal.returns-in_err-sheet-clause-fault
 returns-in_err-sheet-clause-fault c =
-    let inside : Measures = record { places = c.layout.inside.places.items; config = c.layout.inside.config; widths = c.layout.inside.widths.0.items; note = string_bytes c.layout.inside.note } in
+    let inside : Measures = record { places = c.layout.inside.places.items; config = c.layout.inside.config; widths = c.layout.inside.widths.0.items; note = string_bytes c.layout.inside.note; extents = c.layout.inside.extents.items } in
     let plan : Plan = with_colors (color_in c.args.colors.now) (plan_in inside) in
     let tall : ℕ → ℕ = λ row. slice_index_or c.layout.inside.widths.1.items row 0 in
     let count : c.len.result ≡ length inside.places = omega (arith, c.len.ensures, c.layout.inside.places.ok) in
@@ -22,7 +22,7 @@ returns-in_err-sheet-clause-fault c =
 
 pub returns-clause-begun : goal.returns-clause-begun
 returns-clause-begun c =
-    let inside : Measures = record { places = c.layout.inside.places.items; config = c.layout.inside.config; widths = c.layout.inside.widths.0.items; note = string_bytes c.layout.inside.note } in
+    let inside : Measures = record { places = c.layout.inside.places.items; config = c.layout.inside.config; widths = c.layout.inside.widths.0.items; note = string_bytes c.layout.inside.note; extents = c.layout.inside.extents.items } in
     let plan : Plan = with_colors (color_in c.args.colors.now) (plan_in inside) in
     let tall : ℕ → ℕ = λ row. slice_index_or c.layout.inside.widths.1.items row 0 in
     let count : c.len.result ≡ length inside.places = omega (arith, c.len.ensures, c.layout.inside.places.ok) in
@@ -38,7 +38,7 @@ returns-clause-begun c =
 
 pub returns-clause-fault : goal.returns-clause-fault
 returns-clause-fault c =
-    let inside : Measures = record { places = c.layout.inside.places.items; config = c.layout.inside.config; widths = c.layout.inside.widths.0.items; note = string_bytes c.layout.inside.note } in
+    let inside : Measures = record { places = c.layout.inside.places.items; config = c.layout.inside.config; widths = c.layout.inside.widths.0.items; note = string_bytes c.layout.inside.note; extents = c.layout.inside.extents.items } in
     let plan : Plan = with_colors (color_in c.args.colors.now) (plan_in inside) in
     let tall : ℕ → ℕ = λ row. slice_index_or c.layout.inside.widths.1.items row 0 in
     let count : c.len.result ≡ length inside.places = omega (arith, c.len.ensures, c.layout.inside.places.ok) in

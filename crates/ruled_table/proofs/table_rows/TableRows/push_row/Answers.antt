@@ -1,92 +1,102 @@
-use Rattle.std.proofs.Common.{◌≡◌, ◌∙◌, List, None, ◌∷◌, ◌++◌, [], ap, length, map, string_bytes, subst, take, rules}
-use Rattle.std.specs.Borrow.{Bor}
-use Rattle.std.specs.Cow.{cow_str_bytes}
-use Rattle.std.specs.Prelude.{OnOk}
-use Rattle.std.proofs.lemmas.Result.{on_ok_weaker}
+use Rattle.std.proofs.Common.{◌≡◌, ◌∙◌, ◌<◌, List, length, string_bytes, sym, ap, arith, rules}
+use Rattle.std.proofs.lemmas.Bool.Decides.{nat_tests}
 use Rattle.csv.specs.Records.{fields_of}
 use Rattle.pg_layout.specs.Text.{Text}
-use Rattle.ruled_table.specs.Appended.{HasDrawn}
-use Rattle.ruled_table.specs.Layouts.{cells_of}
-use Rattle.ruled_table.specs.Plans.{Measures, Plan, plan_in, with_colors}
-use Rattle.ruled_table.specs.RowLines.{GrowsTo, HasNoRoomBelow, TellsRoom, begun_of}
-use Rattle.ruled_table.specs.Shown.{shown_row}
-use Rattle.ruled_table.specs.Widths.{row_within}
-use Rattle.ruled_table.specs.declared.options.Options.{Options}
-use Rattle.ruled_table.proofs.PlainRecords.{cells-own}
-use Rattle.ruled_table.proofs.RowsInParts.{cells-next}
+use Rattle.ruled_table.specs.Plans.{Measures, Plan, plan_in}
+use Rattle.ruled_table.specs.Points.{pointed_fields}
+use Rattle.ruled_table.specs.declared.points.Extent.{Extent}
+use Rattle.ruled_table.proofs.RowsInParts.{as-it-is, as-pointed}
 use Rattle.ruled_table.proofs.table_rows.TableRows.push_row.Goals as goal
 
-pub returns-then-fill_plain-clause-lines : goal.returns-then-fill_plain-clause-lines
-returns-then-fill_plain-clause-lines c = λ options plan rows appended.
-    let asked : Options = c.args.self.now.options.now in
-    let inside : Measures = record { places = c.layout.inside.places.items; config = c.layout.inside.config; widths = c.layout.inside.widths.0.items; note = string_bytes c.layout.inside.note } in
+pub returns-then-is_empty-clause-lines : goal.returns-then-is_empty-clause-lines
+returns-then-is_empty-clause-lines c = λ options plan rows appended.
+    let inside : Measures = record {
+      places = c.layout.inside.places.items;
+      config = c.layout.inside.config;
+      widths = c.layout.inside.widths.0.items;
+      note = string_bytes c.layout.inside.note;
+      extents = c.layout.inside.extents.items;
+    } in
     let row : List Text = fields_of c.args.fields.now in
-    let cells : List Text = map (λ (cell : Bor Text). cell.now) (take c.len.result c.fill_plain.new.cells) in
-    let lent : c.deref.result.now ≡ inside.places = search rules in
-    let many : c.len.result ≡ length inside.places = search rules in
-    let made : cells ≡ row_within asked.bounds.overflow (plan_in inside).width (shown_row asked inside.places row) = rw many (rw lent at (c.fill_plain.ensures.cells (search rules))) in
-    let is = cells-next options asked (with_colors (λ place. None) plan) (plan_in inside) rows row cells appended.asked (ap plan_in c.layout.view_is ∙ appended.laid) made in
-    subst (λ (all : List (List Text)). OnOk c.push_lent.result (GrowsTo (begun_of plan (cells_of options plan rows)) (begun_of plan all) (string_bytes c.args.buf.now) (string_bytes c.push_lent.new.buf))) is
-    (c.push_lent.ensures.lines plan (cells_of options plan rows) appended.drawn)
+    let own : inside.extents ≡ plan.extents = ap (λ (p : Plan). p.extents) (ap plan_in c.layout.view_is ∙ appended.laid) in
+    let none : length inside.extents ≡ 0 = grind (arith, nat_tests, c.is_empty.ensures, c.if-is_empty.true) in
+    c.push_pointed.ensures.lines options plan rows row appended (as-it-is plan.extents row (sym (ap (λ (es : List Extent). length es) own) ∙ none))
 
-pub returns-then-fill_plain-clause-after : goal.returns-then-fill_plain-clause-after
-returns-then-fill_plain-clause-after c = λ options plan rows appended.
-    let asked : Options = c.args.self.now.options.now in
-    let inside : Measures = record { places = c.layout.inside.places.items; config = c.layout.inside.config; widths = c.layout.inside.widths.0.items; note = string_bytes c.layout.inside.note } in
+pub returns-then-is_empty-clause-after : goal.returns-then-is_empty-clause-after
+returns-then-is_empty-clause-after c = λ options plan rows appended.
+    let inside : Measures = record {
+      places = c.layout.inside.places.items;
+      config = c.layout.inside.config;
+      widths = c.layout.inside.widths.0.items;
+      note = string_bytes c.layout.inside.note;
+      extents = c.layout.inside.extents.items;
+    } in
     let row : List Text = fields_of c.args.fields.now in
-    let cells : List Text = map (λ (cell : Bor Text). cell.now) (take c.len.result c.fill_plain.new.cells) in
-    let lent : c.deref.result.now ≡ inside.places = search rules in
-    let many : c.len.result ≡ length inside.places = search rules in
-    let made : cells ≡ row_within asked.bounds.overflow (plan_in inside).width (shown_row asked inside.places row) = rw many (rw lent at (c.fill_plain.ensures.cells (search rules))) in
-    let is = cells-next options asked (with_colors (λ place. None) plan) (plan_in inside) rows row cells appended.asked (ap plan_in c.layout.view_is ∙ appended.laid) made in
-    on_ok_weaker c.push_lent.result
-    (λ (drawn : HasDrawn plan (cells_of options plan rows ++ cells ∷ []) c.push_lent.new.self). record { asked = appended.asked; laid = appended.laid; drawn = subst (λ (all : List (List Text)). HasDrawn plan all c.push_lent.new.self) is drawn })
-    (c.push_lent.ensures.after plan (cells_of options plan rows) appended.drawn)
+    let own : inside.extents ≡ plan.extents = ap (λ (p : Plan). p.extents) (ap plan_in c.layout.view_is ∙ appended.laid) in
+    let none : length inside.extents ≡ 0 = grind (arith, nat_tests, c.is_empty.ensures, c.if-is_empty.true) in
+    c.push_pointed.ensures.after options plan rows row appended (as-it-is plan.extents row (sym (ap (λ (es : List Extent). length es) own) ∙ none))
 
-pub returns-then-fill_plain-clause-room : goal.returns-then-fill_plain-clause-room
-returns-then-fill_plain-clause-room c = λ options plan rows appended.
-    let asked : Options = c.args.self.now.options.now in
-    let inside : Measures = record { places = c.layout.inside.places.items; config = c.layout.inside.config; widths = c.layout.inside.widths.0.items; note = string_bytes c.layout.inside.note } in
+pub returns-then-is_empty-clause-room : goal.returns-then-is_empty-clause-room
+returns-then-is_empty-clause-room c = λ options plan rows appended.
+    let inside : Measures = record {
+      places = c.layout.inside.places.items;
+      config = c.layout.inside.config;
+      widths = c.layout.inside.widths.0.items;
+      note = string_bytes c.layout.inside.note;
+      extents = c.layout.inside.extents.items;
+    } in
     let row : List Text = fields_of c.args.fields.now in
-    let cells : List Text = map (λ (cell : Bor Text). cell.now) (take c.len.result c.fill_plain.new.cells) in
-    let lent : c.deref.result.now ≡ inside.places = search rules in
-    let many : c.len.result ≡ length inside.places = search rules in
-    let made : cells ≡ row_within asked.bounds.overflow (plan_in inside).width (shown_row asked inside.places row) = rw many (rw lent at (c.fill_plain.ensures.cells (search rules))) in
-    let own = cells-own options asked (with_colors (λ place. None) plan) (plan_in inside) row cells appended.asked (ap plan_in c.layout.view_is ∙ appended.laid) made in
-    subst (λ (xs : List Text). TellsRoom (HasNoRoomBelow plan (cells_of options plan rows) xs) c.push_lent.result) own (c.push_lent.ensures.room plan (cells_of options plan rows) appended.drawn)
+    let own : inside.extents ≡ plan.extents = ap (λ (p : Plan). p.extents) (ap plan_in c.layout.view_is ∙ appended.laid) in
+    let none : length inside.extents ≡ 0 = grind (arith, nat_tests, c.is_empty.ensures, c.if-is_empty.true) in
+    c.push_pointed.ensures.room options plan rows row appended (as-it-is plan.extents row (sym (ap (λ (es : List Extent). length es) own) ∙ none))
 
 pub returns-clause-lines : goal.returns-clause-lines
 returns-clause-lines c = λ options plan rows appended.
-    let asked : Options = c.args.self.now.options.now in
-    let inside : Measures = record { places = c.layout.inside.places.items; config = c.layout.inside.config; widths = c.layout.inside.widths.0.items; note = string_bytes c.layout.inside.note } in
+    let inside : Measures = record {
+      places = c.layout.inside.places.items;
+      config = c.layout.inside.config;
+      widths = c.layout.inside.widths.0.items;
+      note = string_bytes c.layout.inside.note;
+      extents = c.layout.inside.extents.items;
+    } in
     let row : List Text = fields_of c.args.fields.now in
-    let cells : List Text = map cow_str_bytes c.in_ok-cells.cells.items in
-    let lent : c.deref-2.result.now ≡ inside.places = search rules in
-    let made : cells ≡ row_within asked.bounds.overflow (plan_in inside).width (shown_row asked inside.places row) = rw lent at c.in_ok-cells.ensures in
-    let is = cells-next options asked (with_colors (λ place. None) plan) (plan_in inside) rows row cells appended.asked (ap plan_in c.layout.view_is ∙ appended.laid) made in
-    subst (λ (all : List (List Text)). OnOk c.push.result (GrowsTo (begun_of plan (cells_of options plan rows)) (begun_of plan all) (string_bytes c.args.buf.now) (string_bytes c.push.new.buf))) is
-    (c.push.ensures.lines plan (cells_of options plan rows) appended.drawn)
+    let own : inside.extents ≡ plan.extents = ap (λ (p : Plan). p.extents) (ap plan_in c.layout.view_is ∙ appended.laid) in
+    let some : 0 < length inside.extents = grind (arith, nat_tests, c.is_empty.ensures, c.if-is_empty.false) in
+    let also : 0 < length plan.extents = omega (arith, some, ap (λ (es : List Extent). length es) own) in
+    let told : c.deref.result.now ≡ inside.extents = search rules in
+    let is = c.in_ok-pointed.ensures ∙ ap (λ (es : List Extent). pointed_fields es row) (told ∙ own) ∙ as-pointed plan.extents row also in
+    c.push_pointed-2.ensures.lines options plan rows row appended is
 
 pub returns-clause-after : goal.returns-clause-after
 returns-clause-after c = λ options plan rows appended.
-    let asked : Options = c.args.self.now.options.now in
-    let inside : Measures = record { places = c.layout.inside.places.items; config = c.layout.inside.config; widths = c.layout.inside.widths.0.items; note = string_bytes c.layout.inside.note } in
+    let inside : Measures = record {
+      places = c.layout.inside.places.items;
+      config = c.layout.inside.config;
+      widths = c.layout.inside.widths.0.items;
+      note = string_bytes c.layout.inside.note;
+      extents = c.layout.inside.extents.items;
+    } in
     let row : List Text = fields_of c.args.fields.now in
-    let cells : List Text = map cow_str_bytes c.in_ok-cells.cells.items in
-    let lent : c.deref-2.result.now ≡ inside.places = search rules in
-    let made : cells ≡ row_within asked.bounds.overflow (plan_in inside).width (shown_row asked inside.places row) = rw lent at c.in_ok-cells.ensures in
-    let is = cells-next options asked (with_colors (λ place. None) plan) (plan_in inside) rows row cells appended.asked (ap plan_in c.layout.view_is ∙ appended.laid) made in
-    on_ok_weaker c.push.result
-    (λ (drawn : HasDrawn plan (cells_of options plan rows ++ cells ∷ []) c.push.new.self). record { asked = appended.asked; laid = appended.laid; drawn = subst (λ (all : List (List Text)). HasDrawn plan all c.push.new.self) is drawn })
-    (c.push.ensures.after plan (cells_of options plan rows) appended.drawn)
+    let own : inside.extents ≡ plan.extents = ap (λ (p : Plan). p.extents) (ap plan_in c.layout.view_is ∙ appended.laid) in
+    let some : 0 < length inside.extents = grind (arith, nat_tests, c.is_empty.ensures, c.if-is_empty.false) in
+    let also : 0 < length plan.extents = omega (arith, some, ap (λ (es : List Extent). length es) own) in
+    let told : c.deref.result.now ≡ inside.extents = search rules in
+    let is = c.in_ok-pointed.ensures ∙ ap (λ (es : List Extent). pointed_fields es row) (told ∙ own) ∙ as-pointed plan.extents row also in
+    c.push_pointed-2.ensures.after options plan rows row appended is
 
 pub returns-clause-room : goal.returns-clause-room
 returns-clause-room c = λ options plan rows appended.
-    let asked : Options = c.args.self.now.options.now in
-    let inside : Measures = record { places = c.layout.inside.places.items; config = c.layout.inside.config; widths = c.layout.inside.widths.0.items; note = string_bytes c.layout.inside.note } in
+    let inside : Measures = record {
+      places = c.layout.inside.places.items;
+      config = c.layout.inside.config;
+      widths = c.layout.inside.widths.0.items;
+      note = string_bytes c.layout.inside.note;
+      extents = c.layout.inside.extents.items;
+    } in
     let row : List Text = fields_of c.args.fields.now in
-    let cells : List Text = map cow_str_bytes c.in_ok-cells.cells.items in
-    let lent : c.deref-2.result.now ≡ inside.places = search rules in
-    let made : cells ≡ row_within asked.bounds.overflow (plan_in inside).width (shown_row asked inside.places row) = rw lent at c.in_ok-cells.ensures in
-    let own = cells-own options asked (with_colors (λ place. None) plan) (plan_in inside) row cells appended.asked (ap plan_in c.layout.view_is ∙ appended.laid) made in
-    subst (λ (xs : List Text). TellsRoom (HasNoRoomBelow plan (cells_of options plan rows) xs) c.push.result) own (c.push.ensures.room plan (cells_of options plan rows) appended.drawn)
+    let own : inside.extents ≡ plan.extents = ap (λ (p : Plan). p.extents) (ap plan_in c.layout.view_is ∙ appended.laid) in
+    let some : 0 < length inside.extents = grind (arith, nat_tests, c.is_empty.ensures, c.if-is_empty.false) in
+    let also : 0 < length plan.extents = omega (arith, some, ap (λ (es : List Extent). length es) own) in
+    let told : c.deref.result.now ≡ inside.extents = search rules in
+    let is = c.in_ok-pointed.ensures ∙ ap (λ (es : List Extent). pointed_fields es row) (told ∙ own) ∙ as-pointed plan.extents row also in
+    c.push_pointed-2.ensures.room options plan rows row appended is

@@ -1,0 +1,231 @@
+//! Numbers whose points are below one another: spaces are behind those that end sooner.
+
+ghost use Rattle.std.specs.Prelude.{◌≡◌, [], length, map, position, slice_index_or, string_bytes, IfOk};
+ghost use Rattle.std.specs.List.{list_any, range_with_len};
+ghost use Rattle.csv.specs.Records.{fields_of};
+ghost use Rattle.ruled_table.specs.LentRows.{texts_of};
+ghost use Rattle.ruled_table.specs.Points as spec;
+
+use crate::columns::{field_at, told_of};
+use crate::lent_rows::{LentRows, text_in};
+use crate::numbers::is_number;
+use crate::options::{Options, Side};
+use crate::sides::{body_of, is_numeric};
+use csv::StringRecord;
+use std::alloc::{AllocError, Global};
+
+/// How many characters the numbers of a field take at most in front of their points, and from these on.
+#[derive(Clone, Copy)]
+pub(crate) struct Extent {
+    /// The longest whole part: a sign, digits and commas.
+    pub(crate) whole: usize,
+    /// The longest rest: a point and what follows it, an exponent, or a percent sign.
+    pub(crate) rest: usize,
+}
+
+const NO_EXTENT: Extent = Extent { whole: 0, rest: 0 };
+
+// Whether what follows the whole part of a number begins with this character.
+fn ends_whole(c: char) -> bool
+    ensures { result ≡ spec.ends_whole c }
+{
+    matches!(c, '.' | 'e' | 'E' | '%')
+}
+
+// How many characters the whole part of a number has.
+fn whole_len(text: &str) -> usize
+    ensures { result ≡ spec.whole_len text.now }
+{
+    text.chars().take_while(|c| !ends_whole(*c)).count()
+}
+
+// How many characters follow it.
+fn rest_len(text: &str) -> usize
+    ensures { result ≡ spec.rest_len text.now }
+{
+    text.chars().count().saturating_sub(whole_len(text))
+}
+
+// The extent of a text, if it is a number.
+fn own_extent(text: &str) -> Extent
+    ensures { result ≡ spec.own_extent text.now }
+{
+    if !is_number(text) {
+        return NO_EXTENT;
+    }
+    Extent {
+        whole: whole_len(text),
+        rest: rest_len(text),
+    }
+}
+
+// The extent of the numbers of a column.
+fn extent_of(rows: LentRows<'_>, column: usize) -> Extent
+    ensures { result ≡ spec.extent_of (texts_of rows.entry) column }
+{
+    let (mut whole, mut rest) = (0usize, 0usize);
+    for fields in rows.records {
+        let here = own_extent(text_in(fields, rows.places, column));
+        whole = here.whole.max(whole);
+        rest = here.rest.max(rest);
+    }
+    Extent { whole, rest }
+}
+
+// Whether a side is that of points.
+fn is_point(side: Option<Side>) -> bool
+    ensures { result ≡ spec.is_point side }
+{
+    matches!(side, Some(Side::Point))
+}
+
+// Whether points are below one another in a column: it is so aligned, and has numbers.
+fn is_pointed(options: &Options, rows: LentRows<'_>, column: usize) -> bool
+    ensures { result ≡ spec.is_pointed options.now (texts_of rows.entry) column }
+{
+    let body = LentRows {
+        records: body_of(options.has_header, rows.records),
+        places: rows.places,
+    };
+    is_point(told_of(&options.sides, column)) && is_numeric(options, body, column)
+}
+
+// Whether a column shows this field.
+fn shows(field: usize, place: Option<usize>) -> bool
+    ensures { result ≡ spec.shows field place }
+{
+    match place {
+        Some(place) => place == field,
+        None => false,
+    }
+}
+
+// The first column that shows a field.
+fn column_showing(places: &[Option<usize>], field: usize) -> Option<usize>
+    ensures { result ≡ position (spec.shows field) places.now }
+{
+    places.iter().position(|place| shows(field, *place))
+}
+
+// The extent of a field, by that column.
+fn field_extent(options: &Options, rows: LentRows<'_>, field: usize) -> Extent
+    ensures { result ≡ spec.field_extent options.now rows.entry.places.now (texts_of rows.entry) field }
+{
+    match column_showing(rows.places, field) {
+        Some(column) if is_pointed(options, rows, column) => extent_of(rows, column),
+        _ => NO_EXTENT,
+    }
+}
+
+/// How many fields the first row has.
+pub(crate) fn fields_in(rows: &[StringRecord]) -> usize
+    ensures { result ≡ length (slice_index_or (map fields_of rows.now) 0 []) }
+{
+    match rows {
+        [fields, ..] => fields.len(),
+        [] => 0,
+    }
+}
+
+// Whether a column is aligned by points.
+fn has_points(options: &Options) -> bool
+    ensures { result ≡ list_any spec.is_point options.now.sides.items }
+{
+    options.sides.iter().any(|side| is_point(*side))
+}
+
+// The extent of each of so many fields.
+fn each_extent(
+    alloc: Global,
+    options: &Options,
+    rows: LentRows<'_>,
+    fields: usize,
+) -> Result<Vec<Extent>, AllocError>
+    ensures { IfOk result (λ extents. extents.items ≡ map (spec.field_extent options.now rows.entry.places.now (texts_of rows.entry)) (range_with_len 0 fields)) }
+{
+    let mut extents = Vec::new(alloc);
+    for field in 0..fields {
+        extents.push(field_extent(options, rows, field))?;
+    }
+    Ok(extents)
+}
+
+/// The extent of each field, or of none if no column is aligned by points.
+pub(crate) fn extents_of(
+    alloc: Global,
+    options: &Options,
+    rows: LentRows<'_>,
+) -> Result<Vec<Extent>, AllocError>
+    ensures { IfOk result (λ extents. extents.items
+        ≡ spec.extents_of options.now rows.entry.places.now (texts_of rows.entry) (length (slice_index_or (map fields_of rows.entry.records.now) 0 []))) }
+{
+    if has_points(options) {
+        return each_extent(alloc, options, rows, fields_in(rows.records));
+    }
+    Ok(Vec::new(alloc))
+}
+
+// The extent of a field.
+fn extent_at(extents: &[Extent], field: usize) -> Extent
+    ensures { result ≡ spec.extent_at extents.now field }
+{
+    match extents.get(field) {
+        Some(extent) => *extent,
+        None => NO_EXTENT,
+    }
+}
+
+// As many digits as a number of this extent takes, at least one.
+fn widest_number(alloc: Global, extent: Extent) -> Result<String, AllocError>
+    ensures { IfOk result (λ text. string_bytes text ≡ spec.widest_number extent) }
+{
+    let whole = "0".repeat(alloc, extent.whole.max(1usize.saturating_sub(extent.rest)))?;
+    let rest = "0".repeat(alloc, extent.rest)?;
+    format!(in alloc; "{whole}{rest}")
+}
+
+/// A row of the widest number of each field, or of one digit.
+pub(crate) fn ruler_of(
+    alloc: Global,
+    extents: &[Extent],
+    fields: usize,
+) -> Result<StringRecord, AllocError>
+    ensures { IfOk result (λ ruler. fields_of ruler ≡ spec.ruler_of extents.now fields) }
+{
+    let mut ruler = StringRecord::new(alloc);
+    for field in 0..fields {
+        let text = widest_number(alloc, extent_at(extents, field))?;
+        ruler.push_field(text.as_str())?;
+    }
+    Ok(ruler)
+}
+
+// A number with the spaces behind it that its rest lacks, or any other text.
+fn pointed(alloc: Global, rest: usize, text: &str) -> Result<String, AllocError>
+    ensures { IfOk result (λ shown. string_bytes shown ≡ spec.pointed rest text.now) }
+{
+    let lacking = if is_number(text) {
+        rest.saturating_sub(rest_len(text))
+    } else {
+        0
+    };
+    let spaces = " ".repeat(alloc, lacking)?;
+    format!(in alloc; "{text}{spaces}")
+}
+
+/// A record with spaces behind its numbers, so that their points are below one another.
+pub(crate) fn pointed_record(
+    alloc: Global,
+    extents: &[Extent],
+    fields: &StringRecord,
+) -> Result<StringRecord, AllocError>
+    ensures { IfOk result (λ made. fields_of made ≡ spec.pointed_fields extents.now (fields_of fields.now)) }
+{
+    let mut made = StringRecord::new(alloc);
+    for field in 0..fields.len() {
+        let rest = extent_at(extents, field).rest;
+        let text = pointed(alloc, rest, field_at(fields, field))?;
+        made.push_field(text.as_str())?;
+    }
+    Ok(made)
+}
