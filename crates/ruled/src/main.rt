@@ -3,13 +3,13 @@
 #![tactic(auto)]
 
 mod arguments;
-mod compression;
+mod contents;
 mod logs;
 mod source;
 mod waiting;
 
 use crate::arguments::{Asked, Wanted, read_arguments};
-use crate::compression::unpacker;
+use crate::contents::{Content, content_named};
 use crate::logs::log_beside;
 use crate::waiting::Waiting;
 use ruled_io::{
@@ -71,16 +71,19 @@ fn tell_unread(rt: &HostRuntime, name: &str, error: io::Error) -> io::Result<u8>
     Ok(if is_bad_text { 2 } else { 5 })
 }
 
-// Reports a file of this name that is compressed, and returns the exit status, or `None` if it isn't.
-fn tell_compressed(rt: &HostRuntime, name: &str) -> io::Result<Option<u8>> {
-    let Some(unpacker) = unpacker(rt, name)? else {
+// Reports a file of this name that has no rows of text, and returns the exit status, or `None` if it may have some.
+fn tell_content(rt: &HostRuntime, name: &str) -> io::Result<Option<u8>> {
+    let Some(content) = content_named(rt, name)? else {
         return Ok(None);
     };
     let name = Quoted(name);
-    let _ = writeln!(
-        rt.stderr(),
-        "ruled: {name}: compressed; try {unpacker} {name} | ruled"
-    );
+    let _ = match content {
+        Content::Packed(unpacker) => writeln!(
+            rt.stderr(),
+            "ruled: {name}: compressed; try {unpacker} {name} | ruled"
+        ),
+        Content::Other(kind) => writeln!(rt.stderr(), "ruled: {name}: is {kind}"),
+    };
     Ok(Some(2))
 }
 
@@ -111,7 +114,7 @@ fn read_further(
 // memory.
 fn read_all_further(rt: &HostRuntime, wanted: &mut Wanted) -> io::Result<Option<u8>> {
     for further in &mut wanted.request.further {
-        if let Some(status) = tell_compressed(rt, further.name.as_str())? {
+        if let Some(status) = tell_content(rt, further.name.as_str())? {
             return Ok(Some(status));
         }
         if let Err(error) = read_further(rt, wanted.encoding, further) {
@@ -140,7 +143,7 @@ fn show(rt: &HostRuntime, mut wanted: Wanted) -> io::Result<u8> {
     if wanted.request.name.as_str() == "-" {
         return show_input(rt, wanted, rt.stdin());
     }
-    if let Some(status) = tell_compressed(rt, wanted.request.name.as_str())? {
+    if let Some(status) = tell_content(rt, wanted.request.name.as_str())? {
         return Ok(status);
     }
     match open_first(rt, &mut wanted.request) {
