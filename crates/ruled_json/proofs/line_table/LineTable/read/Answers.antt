@@ -8,45 +8,45 @@ use Rattle.ruled_json.proofs.line_table.LineTable.read.Goals as goal
 
 pub returns-then-self-clause-read : goal.returns-then-self-clause-read
 returns-then-self-clause-read c = λ k above has.
-    taken-read k above c.args.line.now c.args.self.now has c.in-Ok-Some.ensures.fault (value_view c.in-Ok-Some.value) (value_view c.in_ok-flat.flat)
-    (ap (option_map value_view) (sym c.in-Ok-Some.field-0-is) ∙ c.in-Ok-Some.ensures.value) (c.in_ok-flat.ensures ∙ sym (ap (λ (b : Bool). shown_record b (value_view c.in-Ok-Some.value)) c.if-self.true))
+    taken-read k above c.args.line.now c.args.self.now has c.in-Ok-Some.ensures.fault (value_view c.in-Ok-Some.value) (value_view c.in_ok-flat-in-Ok-Some.flat)
+    (ap (option_map value_view) (sym c.in-Ok-Some.field-0-is) ∙ c.in-Ok-Some.ensures.value) (c.in_ok-flat-in-Ok-Some.ensures ∙ sym (ap (λ (b : Bool). shown_record b (value_view c.in-Ok-Some.value)) c.if-self.true))
     c.take.result c.take.new.self c.take.ensures.kept.1 (c.take.ensures.kept.0 ∙ c.line_after-self.ensures)
     (c.take.ensures.fault k (records_on k.members above) (same-records k (records_on k.members above) c.args.self.now _ has.has refl refl refl refl))
     (c.take.ensures.read k (records_on k.members above) (same-records k (records_on k.members above) c.args.self.now _ has.has refl refl refl refl))
 
 pub returns-then-self-clause-rows : goal.returns-then-self-clause-rows
 returns-then-self-clause-rows c = λ k above has.
-    taken-rows k above c.args.line.now c.args.self.now has c.in-Ok-Some.ensures.fault (value_view c.in-Ok-Some.value) (value_view c.in_ok-flat.flat)
-    (ap (option_map value_view) (sym c.in-Ok-Some.field-0-is) ∙ c.in-Ok-Some.ensures.value) (c.in_ok-flat.ensures ∙ sym (ap (λ (b : Bool). shown_record b (value_view c.in-Ok-Some.value)) c.if-self.true))
+    taken-rows k above c.args.line.now c.args.self.now has c.in-Ok-Some.ensures.fault (value_view c.in-Ok-Some.value) (value_view c.in_ok-flat-in-Ok-Some.flat)
+    (ap (option_map value_view) (sym c.in-Ok-Some.field-0-is) ∙ c.in-Ok-Some.ensures.value) (c.in_ok-flat-in-Ok-Some.ensures ∙ sym (ap (λ (b : Bool). shown_record b (value_view c.in-Ok-Some.value)) c.if-self.true))
     c.take.result (map fields_of c.args.rows.now.items) (map fields_of c.take.new.rows.items)
     (c.take.ensures.rows k (records_on k.members above) (same-records k (records_on k.members above) c.args.self.now _ has.has refl refl refl refl))
 
 pub returns-then-self-clause-fault : goal.returns-then-self-clause-fault
 returns-then-self-clause-fault c = λ k above has.
-    taken-fault k above c.args.line.now c.args.self.now has c.in-Ok-Some.ensures.fault (value_view c.in-Ok-Some.value) (value_view c.in_ok-flat.flat)
-    (ap (option_map value_view) (sym c.in-Ok-Some.field-0-is) ∙ c.in-Ok-Some.ensures.value) (c.in_ok-flat.ensures ∙ sym (ap (λ (b : Bool). shown_record b (value_view c.in-Ok-Some.value)) c.if-self.true))
+    taken-fault k above c.args.line.now c.args.self.now has c.in-Ok-Some.ensures.fault (value_view c.in-Ok-Some.value) (value_view c.in_ok-flat-in-Ok-Some.flat)
+    (ap (option_map value_view) (sym c.in-Ok-Some.field-0-is) ∙ c.in-Ok-Some.ensures.value) (c.in_ok-flat-in-Ok-Some.ensures ∙ sym (ap (λ (b : Bool). shown_record b (value_view c.in-Ok-Some.value)) c.if-self.true))
     c.take.result (c.take.ensures.fault k (records_on k.members above) (same-records k (records_on k.members above) c.args.self.now _ has.has refl refl refl refl))
 
 pub returns-else-self-clause-read : goal.returns-else-self-clause-read
 returns-else-self-clause-read c = λ k above has.
     taken-read k above c.args.line.now c.args.self.now has c.in-Ok-Some.ensures.fault (value_view c.in-Ok-Some.value) (value_view c.in-Ok-Some.value)
     (ap (option_map value_view) (sym c.in-Ok-Some.field-0-is) ∙ c.in-Ok-Some.ensures.value) (sym (ap (λ (b : Bool). shown_record b (value_view c.in-Ok-Some.value)) c.if-self.false))
-    c.take-2.result c.take-2.new.self c.take-2.ensures.kept.1 (c.take-2.ensures.kept.0 ∙ c.line_after-self.ensures)
-    (c.take-2.ensures.fault k (records_on k.members above) (same-records k (records_on k.members above) c.args.self.now _ has.has refl refl refl refl))
-    (c.take-2.ensures.read k (records_on k.members above) (same-records k (records_on k.members above) c.args.self.now _ has.has refl refl refl refl))
+    c.take-in-Ok-Some.result c.take-in-Ok-Some.new.self c.take-in-Ok-Some.ensures.kept.1 (c.take-in-Ok-Some.ensures.kept.0 ∙ c.line_after-self.ensures)
+    (c.take-in-Ok-Some.ensures.fault k (records_on k.members above) (same-records k (records_on k.members above) c.args.self.now _ has.has refl refl refl refl))
+    (c.take-in-Ok-Some.ensures.read k (records_on k.members above) (same-records k (records_on k.members above) c.args.self.now _ has.has refl refl refl refl))
 
 pub returns-else-self-clause-rows : goal.returns-else-self-clause-rows
 returns-else-self-clause-rows c = λ k above has.
     taken-rows k above c.args.line.now c.args.self.now has c.in-Ok-Some.ensures.fault (value_view c.in-Ok-Some.value) (value_view c.in-Ok-Some.value)
     (ap (option_map value_view) (sym c.in-Ok-Some.field-0-is) ∙ c.in-Ok-Some.ensures.value) (sym (ap (λ (b : Bool). shown_record b (value_view c.in-Ok-Some.value)) c.if-self.false))
-    c.take-2.result (map fields_of c.args.rows.now.items) (map fields_of c.take-2.new.rows.items)
-    (c.take-2.ensures.rows k (records_on k.members above) (same-records k (records_on k.members above) c.args.self.now _ has.has refl refl refl refl))
+    c.take-in-Ok-Some.result (map fields_of c.args.rows.now.items) (map fields_of c.take-in-Ok-Some.new.rows.items)
+    (c.take-in-Ok-Some.ensures.rows k (records_on k.members above) (same-records k (records_on k.members above) c.args.self.now _ has.has refl refl refl refl))
 
 pub returns-else-self-clause-fault : goal.returns-else-self-clause-fault
 returns-else-self-clause-fault c = λ k above has.
     taken-fault k above c.args.line.now c.args.self.now has c.in-Ok-Some.ensures.fault (value_view c.in-Ok-Some.value) (value_view c.in-Ok-Some.value)
     (ap (option_map value_view) (sym c.in-Ok-Some.field-0-is) ∙ c.in-Ok-Some.ensures.value) (sym (ap (λ (b : Bool). shown_record b (value_view c.in-Ok-Some.value)) c.if-self.false))
-    c.take-2.result (c.take-2.ensures.fault k (records_on k.members above) (same-records k (records_on k.members above) c.args.self.now _ has.has refl refl refl refl))
+    c.take-in-Ok-Some.result (c.take-in-Ok-Some.ensures.fault k (records_on k.members above) (same-records k (records_on k.members above) c.args.self.now _ has.has refl refl refl refl))
 
 pub returns-in-Ok-None-clause-read : goal.returns-in-Ok-None-clause-read
 returns-in-Ok-None-clause-read c = λ k above has.
