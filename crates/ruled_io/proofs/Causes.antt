@@ -21,7 +21,7 @@ use Rattle.ruled_table.specs.Arranged.{padded_rows}
 use Rattle.ruled_table.specs.View.{table_excess, table_fault, table_text}
 use Rattle.ruled_table.specs.declared.fault.ViewFault.{ViewFault}
 use Rattle.ruled_io.specs.Databases.{LacksAnswer, LacksAnswerOf, LacksQueried, LacksSelected, LacksStored, LacksTableOf, members_in, table_of}
-use Rattle.ruled_io.specs.Faults.{IsOfRead, Tells, but_line_in, fault_of_database, fault_of_json, fault_of_rows, fault_of_sql, is_early, is_memory, is_of_write, is_read}
+use Rattle.ruled_io.specs.Faults.{IsOfRead, Tells, but_line_further, but_line_in, fault_of_database, fault_of_json, fault_of_rows, fault_of_sql, is_early, is_memory, is_of_write, is_read}
 use Rattle.ruled_io.specs.Formats.{content_of, format_in}
 use Rattle.ruled_io.specs.Further.{further_fault}
 use Rattle.ruled_io.specs.Input.{format_fault, input_fault, rows_in}
@@ -170,7 +170,7 @@ module _ (query : Query) (known : Known) (bytes : List ℕ) (is : known_in query
   of_table (input.Database fault) tells = absurd (false≢true (of-input (members_in query) known bytes (input.Database fault) (tells refl)))
   of_table input.Log tells = absurd (false≢true (of-input (members_in query) known bytes input.Log (tells refl)))
   of_table (input.Stream fault) tells = absurd (false≢true (of-input (members_in query) known bytes (input.Stream fault) (tells refl)))
-  of_table (input.Further number fault) tells = absurd (false≢true (of-input (members_in query) known bytes (input.Further number fault) (tells refl)))
+  of_table (input.Further number fault) tells = absurd (false≢true (of-input (members_in query) known bytes (input.Further number (but_line_further fault)) (tells refl)))
   of_table (input.Column name) tells = absurd (false≢true (of-input (members_in query) known bytes (input.Column name) (tells refl)))
   of_table input.Sort tells = absurd (false≢true (of-input (members_in query) known bytes input.Sort (tells refl)))
   of_table input.Totals tells = absurd (false≢true (of-input (members_in query) known bytes input.Totals (tells refl)))
