@@ -1,5 +1,5 @@
 -- A run at once, and a stream whose first rows are all rows.
-use Rattle.std.proofs.Common.{◌≡◌, ◌∙◌, ◌∷◌, ◌++◌, ◌≤◌, ℕ, suc, List, [], Bool, true, false, Option, None, Some, length, take, arith, refl, sym, ap, subst}
+use Rattle.std.proofs.Common.{inl, inr, ◌≡◌, ◌∙◌, ◌∷◌, ◌++◌, ◌≤◌, ℕ, suc, List, [], Bool, true, false, Option, None, Some, length, take, arith, refl, sym, ap, subst}
 use Rattle.std.specs.Prelude.{◌≢◌, ◌==◌, ◌&&◌, ◌||◌, not, is_some, map, slice_get, slice_index_or, option_map, string_bytes, if◌then◌else◌}
 use Rattle.std.specs.Option.{option_and_then, option_or}
 use Rattle.std.proofs.Math.Path.{fun_ext}
