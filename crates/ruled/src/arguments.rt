@@ -109,7 +109,7 @@ const FLAG: Choice = Choice {
 };
 
 /// All arguments, in the order of the help.
-const CHOICES: [Choice; 38] = [
+const CHOICES: [Choice; 39] = [
     Choice {
         name: "file",
         value: "FILE",
