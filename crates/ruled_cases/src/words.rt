@@ -289,11 +289,11 @@ pub(crate) fn set_option(
         return Ok(true);
     }
     if name == "null" {
-        let source = match request.further.last_mut() {
-            Some(further) => &mut further.source,
-            None => &mut request.source,
-        };
-        set_null(alloc, source, meant(alloc, value)?);
+        let null = meant(alloc, value)?;
+        match request.further.last_mut() {
+            Some(further) => set_null(alloc, &mut further.source, null),
+            None => set_null(alloc, &mut request.source, null),
+        }
         return Ok(true);
     }
     if let Some(source) = source_set(alloc, request.source.log(), name, value)? {
