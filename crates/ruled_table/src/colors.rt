@@ -123,6 +123,10 @@ impl Colors for TextColors<'_> {
     ghost is_colorless = { λ colors. not colors.options.now.is_colored };
 
     fn get_color(&self, pos: Position) -> Option<&Tint> {
+        // It is asked for each cell.
+        if !self.options.is_colored {
+            return None;
+        }
         if self.is_block {
             return self.tint_at(pos.col == 0, 0, pos.row);
         }
