@@ -3,6 +3,7 @@
 #![tactic(auto)]
 
 mod arguments;
+mod choices;
 mod contents;
 mod logs;
 mod source;
