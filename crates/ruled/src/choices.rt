@@ -72,7 +72,7 @@ pub(crate) const CHOICES: [Choice; 39] = [
         name: "file",
         value: "FILE",
         takes: Takes::Files,
-        help: "Files to read, as one table if they have one header; standard input if there is none, or for -",
+        help: "Files to print as one table, all with the same header; standard input if there is none, or for -",
         ..FLAG
     },
     Choice {
@@ -80,14 +80,14 @@ pub(crate) const CHOICES: [Choice; 39] = [
         short: Some('f'),
         value: "FORMAT",
         takes: Takes::Format,
-        help: "Read the input in this format; without it the file's extension counts, else the first bytes",
+        help: "Read the input in this format; the default is that of the file's extension, or else of its first bytes",
         ..FLAG
     },
     Choice {
         name: "encoding",
         value: "NAME",
         takes: Takes::Encoding,
-        help: "Read text in this encoding; without it a byte order mark shows UTF-16, and all else is UTF-8",
+        help: "Read text in this encoding; the default is UTF-16 if a byte order mark shows it, else UTF-8",
         ..FLAG
     },
     Choice {
@@ -95,33 +95,33 @@ pub(crate) const CHOICES: [Choice; 39] = [
         short: Some('q'),
         value: "SQL",
         takes: Takes::Text,
-        help: "Print the rows that this SQL statement reads from a database, or from the table input, which has the rows of any other file",
+        help: "Print the result of this SQL query of a database, or of the rows of any other file, which are the table input",
         ..FLAG
     },
     Choice {
         name: "limit-steps",
         value: "N",
         takes: Takes::Number,
-        help: "Refuse a query that reads and returns more than N rows; without it the limit is 100 million",
+        help: "Stop a query that reads and returns more than N rows in all; the default is 100 million",
         ..FLAG
     },
     Choice {
         name: "table",
         value: "NAME",
         takes: Takes::Text,
-        help: "Print all rows of this table of an SQLite database; without it and --query, list the tables",
+        help: "Print all rows of this table of an SQLite database; the default is a list of the tables",
         ..FLAG
     },
     Choice {
         name: "at",
         value: "PATH",
         takes: Takes::Text,
-        help: "Print the rows of this member of a JSON value; a dot leads to a member of a member",
+        help: "Print the rows of this member of a JSON value; a.b is member b of member a",
         ..FLAG
     },
     Choice {
         name: "flatten",
-        help: "Print each member of an object within an object of JSON in a column of its own, named a.b",
+        help: "Print the members of nested JSON objects in columns of their own, named a.b",
         ..FLAG
     },
     Choice {
@@ -129,28 +129,28 @@ pub(crate) const CHOICES: [Choice; 39] = [
         short: Some('d'),
         value: "C",
         takes: Takes::Text,
-        help: "Separate fields by this character, by tabs (tab), or by blanks as in the output of ps (blanks); without it the first line sets or shows it",
+        help: "Separate fields by this character, by tabs (tab), or by runs of blanks as ps prints them (blanks); by default the first line decides",
         ..FLAG
     },
     Choice {
         name: "quote",
         value: "HOW",
         takes: Takes::Quote,
-        help: "Read quotes as ordinary characters (none), so that fields end at each delimiter and rows at each line end",
+        help: "Read quotes as ordinary characters (none), so that every delimiter ends a field and every line end a row",
         ..FLAG
     },
     Choice {
         name: "skip",
         value: "N",
         takes: Takes::Number,
-        help: "Leave out the first N lines of the input",
+        help: "Skip the first N lines of the input",
         ..FLAG
     },
     Choice {
         name: "comment",
         value: "C",
         takes: Takes::Text,
-        help: "Leave out lines that begin with this character, unless they begin within a quoted field",
+        help: "Skip lines that begin with this character, except within a quoted field",
         ..FLAG
     },
     Choice {
@@ -158,25 +158,25 @@ pub(crate) const CHOICES: [Choice; 39] = [
         value: "NAMES",
         takes: Takes::Text,
         conflicts: &["no-header", "stream"],
-        help: "Put a header with these names above the first row",
+        help: "Add a header with these names above the first row",
         ..FLAG
     },
     Choice {
         name: "number",
         conflicts: &["stream"],
-        help: "Print the number of each row in a first column",
+        help: "Number the rows in a first column",
         ..FLAG
     },
     Choice {
         name: "no-header",
-        help: "Print row 0 as an ordinary row",
+        help: "Print row 0 as an ordinary row, not as a header",
         ..FLAG
     },
     Choice {
         name: "ragged",
         value: "HOW",
         takes: Takes::Ragged,
-        help: "Accept rows with more or fewer fields than row 0; missing fields are empty, and further fields are columns without a name (pad) or left out (cut)",
+        help: "Accept rows with more or fewer fields than row 0: missing fields are empty, and extra fields get columns without a name (pad) or are dropped (cut)",
         ..FLAG
     },
     Choice {
@@ -184,7 +184,7 @@ pub(crate) const CHOICES: [Choice; 39] = [
         short: Some('c'),
         value: "NAMES",
         takes: Takes::Text,
-        help: "Print only these columns, in this order, by their names in row 0, their numbers, as 1-3, or a part of their names, as /pop/; a ! in front leaves them out",
+        help: "Print only these columns, in this order, by name, by number (1-3), or by a part of the name (/pop/); a word with ! in front leaves its columns out",
         ..FLAG
     },
     Choice {
@@ -192,7 +192,7 @@ pub(crate) const CHOICES: [Choice; 39] = [
         value: "COLUMN",
         takes: Takes::Text,
         conflicts: &["no-header", "stream"],
-        help: "Sort the rows below the header by this column, by numbers if all its texts are numbers; the greatest comes first if :desc is behind the column",
+        help: "Sort the rows below the header by this column, as numbers if all its texts are numbers; NAME:desc sorts in descending order",
         ..FLAG
     },
     Choice {
@@ -216,19 +216,19 @@ pub(crate) const CHOICES: [Choice; 39] = [
         value: "N",
         takes: Takes::Number,
         conflicts: &["no-header", "vertical"],
-        help: "Print the first N and the last N rows below the header, with a row of ⋮ in place of the others",
+        help: "Print only the first N and the last N rows below the header, with a row of ⋮ for any others",
         ..FLAG
     },
     Choice {
         name: "count",
         conflicts: &["stream", "markdown"],
-        help: "Say below the table how many rows and columns there are",
+        help: "Count rows and columns in a line below the table",
         ..FLAG
     },
     Choice {
         name: "no-count",
         conflicts: &["count"],
-        help: "Say nothing below a table in the look psql, which has --count unless it is streamed",
+        help: "Don't count rows and columns in the look psql, which does so by default",
         ..FLAG
     },
     Choice {
@@ -245,39 +245,39 @@ pub(crate) const CHOICES: [Choice; 39] = [
         value: "SIDES",
         takes: Takes::Side,
         is_list: true,
-        help: "Align columns left, right, centre, auto, which is right if all texts below the header are numbers, or point, which is auto with points below one another; one word is for all columns",
+        help: "Align columns left, right, centre, auto (right if all texts below the header are numbers) or point (auto, with decimal points below one another); one word applies to all columns",
         ..FLAG
     },
     Choice {
         name: "missing",
         value: "TEXTS",
         takes: Takes::Text,
-        help: "Count these texts as blank where a column of numbers is aligned right, such as NA,NULL",
+        help: "Treat these texts, such as NA,NULL, as blank in columns of numbers",
         ..FLAG
     },
     Choice {
         name: "color",
         value: "WHEN",
         takes: Takes::Color,
-        help: "Print the header in bold; by default (auto) if the output is a terminal, unless NO_COLOR is set or TERM is dumb",
+        help: "Print the header in bold; auto, the default, does so at a terminal, unless NO_COLOR is set or TERM is dumb",
         ..FLAG
     },
     Choice {
         name: "tint",
         conflicts: &["stream"],
-        help: "Where there is colour, print numbers below zero in red, those above it in green, and texts of --missing and --null dim",
+        help: "Where there is colour, print negative numbers in red, positive ones in green, and the texts of --missing and --null dim",
         ..FLAG
     },
     Choice {
         name: "null",
         value: "TEXT",
         takes: Takes::Text,
-        help: "Print this text for null in JSON and NULL in databases, and count it as blank like --missing",
+        help: "Print this text for null in JSON and NULL in databases, and treat it as blank, as with --missing",
         ..FLAG
     },
     Choice {
         name: "markdown",
-        help: "Print a Markdown table, with bars, backslashes and line feeds of fields escaped",
+        help: "Print a Markdown table, with bars, backslashes and line feeds in fields escaped",
         ..FLAG
     },
     Choice {
@@ -291,7 +291,7 @@ pub(crate) const CHOICES: [Choice; 39] = [
         value: "N",
         takes: Takes::Number,
         conflicts: &["markdown"],
-        help: "Limit lines to N terminal columns; 0 means no limit; without it the variable COLUMNS counts",
+        help: "Limit lines to N terminal columns; 0 means no limit; the default is the variable COLUMNS",
         ..FLAG
     },
     Choice {
@@ -301,11 +301,11 @@ pub(crate) const CHOICES: [Choice; 39] = [
         takes: Takes::Number,
         is_list: true,
         conflicts: &["markdown"],
-        help: "Limit the texts of each column to N terminal columns; one number is for all columns, and 0 means no limit",
+        help: "Limit the texts of each column to N terminal columns; 0 means no limit; one number applies to all columns",
     },
     Choice {
         name: "wrap",
-        help: "Wrap texts that are too wide, which is the default",
+        help: "Wrap texts that are too wide; this is the default",
         ..FLAG
     },
     Choice {
@@ -317,13 +317,13 @@ pub(crate) const CHOICES: [Choice; 39] = [
     Choice {
         name: "omit",
         conflicts: &["markdown", "vertical"],
-        help: "Leave out columns in the middle that have no room, which is the default if the output is a terminal",
+        help: "Leave out columns in the middle that don't fit; this is the default at a terminal",
         ..FLAG
     },
     Choice {
         name: "no-omit",
         conflicts: &["omit"],
-        help: "Print all columns, even if the table gets too wide",
+        help: "Print all columns, even if the table is too wide",
         ..FLAG
     },
     Choice {
@@ -331,7 +331,7 @@ pub(crate) const CHOICES: [Choice; 39] = [
         value: "WHEN",
         takes: Takes::When,
         conflicts: &["no-header", "markdown"],
-        help: "Print each record as a block with one row for each field; auto: only if columns would be left out",
+        help: "Print each record as a block with a row for each field; auto does so only if columns would be left out",
         ..FLAG
     },
     Choice {
@@ -339,7 +339,7 @@ pub(crate) const CHOICES: [Choice; 39] = [
         value: "ROWS",
         takes: Takes::Rows,
         conflicts: &["head", "tail", "ends", "vertical", "markdown"],
-        help: "Print each row when it arrives, at the widths of the header and the first ROWS rows below it, or the first 1000",
+        help: "Print each row as it arrives, at the widths of the header and the first ROWS rows below it; the default is 1000",
         ..FLAG
     },
 ];

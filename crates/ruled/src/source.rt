@@ -118,7 +118,7 @@ fn is_of_table(found: &ArgMatches, asked: Option<Kind>) -> Result<bool, &'static
         return Ok(false);
     }
     if found.get_str("query").is_some() {
-        return Err("--query takes no --table");
+        return Err("--table can't be used with --query");
     }
     if found.get_str("delimiter").is_some() || matches!(asked, Some(Kind::Rows(_))) {
         return Err("--table needs a database");
@@ -241,7 +241,7 @@ pub(crate) fn source_asked(
 pub(crate) fn unstreamed(found: &ArgMatches, source: &Source) -> Option<&'static str> {
     found.get_one::<u32>("stream")?;
     if found.get_str("query").is_some() {
-        return Some("--query needs all rows, so they can't be streamed");
+        return Some("--query needs all rows, so it can't be streamed");
     }
     if matches!(source, Source::Database { .. }) {
         return Some("a database can't be streamed");
