@@ -1,9 +1,10 @@
 -- Lines of printable ASCII: each byte is a character by itself, and takes one column.
-use Rattle.std.proofs.Common.{◌≡◌, ℕ, ◌<◌, ◌==◌, ◌&&◌, ◌||◌, not, min, Bool, true, false, cond, List, [], ◌∷◌, ◌++◌, length, length-append, map, refl, sym, ap, ◌∙◌, arith}
-use Rattle.std.specs.List.{list_all}
+use Rattle.std.proofs.Common.{◌≡◌, ℕ, ◌<◌, ◌≤◌, ◌-◌, ◌==◌, ◌&&◌, ◌||◌, not, min, Bool, true, false, cond, List, [], ◌∷◌, ◌++◌, length, length-append, map, refl, sym, ap, ◌∙◌, arith}
+use Rattle.std.specs.List.{list_all, slice_range}
 use Rattle.std.specs.Str.{encode_utf8_all}
 use Rattle.std.proofs.lemmas.Bool.{and_parts, and_from}
 use Rattle.std.proofs.lemmas.Bool.Decides.{nat_tests}
+use Rattle.std.proofs.lemmas.List.Folds.{list_all-append}
 use Rattle.std.proofs.lemmas.Str.{chars-IsAscii, encode_ascii}
 use Rattle.ucd_table.proofs.Facts.{Stepped-below}
 use Rattle.ucd_breaks.specs.GraphemeClusterBreak.{grapheme_cluster_break}
@@ -14,12 +15,14 @@ use Rattle.ucd_breaks.proofs.Computing.{ucd_breaks}
 use Rattle.unicode_segmentation.specs.Grapheme.{graphemes, is_grapheme_break}
 use Rattle.unicode_segmentation.specs.Segments.{cut, prepend, segments}
 use Rattle.unicode_segmentation.proofs.GraphemeLemmas.{is_grapheme_break-others}
+use Rattle.unicode_segmentation.proofs.TextLemmas.{length-slice_range, slice_range_split}
 use Rattle.pg_layout.specs.Text.{Text, width_of, greatest, is_plain_byte}
 use Rattle.pg_layout.proofs.TextLines.{lines_of-one, width_of-plain, feed_place-plain}
 use Rattle.pg_fit.specs.declared.wrapping.Breaking.{Breaking}
 use Rattle.pg_fit.specs.declared.wrapping.Breaking.TheVariants.{Anywhere, BetweenWords}
 use Rattle.pg_fit.specs.Printable.{is_printable}
 use Rattle.pg_fit.specs.Wrapping.{Piece, before_words, words, indented, widest_character, least_line_width, least_width}
+use Rattle.pg_fit.proofs.FilledLines.{slice_range-all}
 use Rattle.pg_fit.proofs.LawsOfControls.{printable-low, IsAscii-printable}
 
 -- ---- characters
@@ -85,6 +88,20 @@ printables-plain [] h = refl
 printables-plain (b ∷ bs) h =
     let parts = and_parts (is_printable b) (list_all is_printable bs) h in
     and_from (is_plain_byte b) (list_all is_plain_byte bs) (printable-plain b parts.0) (printables-plain bs parts.1)
+
+-- a part of a text of such bytes, which are as many as its columns
+printable-part : (text : Text) (i j : ℕ) → i ≤ j → j ≤ length text → list_all is_printable text ≡ true → list_all is_printable (slice_range text i j) ≡ true
+printable-part text i j order end h =
+    let n = length text in
+    let rest = slice_range text i n in
+    let whole : list_all is_printable (slice_range text 0 i ++ rest) ≡ true = ap (list_all is_printable) (sym (slice_range_split text 0 i n (omega arith) (omega arith)) ∙ slice_range-all text) ∙ h in
+    let behind = (and_parts (list_all is_printable (slice_range text 0 i)) (list_all is_printable rest) (sym (list_all-append is_printable (slice_range text 0 i) rest) ∙ whole)).1 in
+    let here : list_all is_printable (slice_range text i j ++ slice_range text j n) ≡ true = ap (list_all is_printable) (sym (slice_range_split text i j n order end)) ∙ behind in
+    (and_parts (list_all is_printable (slice_range text i j)) (list_all is_printable (slice_range text j n)) (sym (list_all-append is_printable (slice_range text i j) (slice_range text j n)) ∙ here)).0
+
+pub part-width : (text : Text) (i j : ℕ) → i ≤ j → j ≤ length text → list_all is_printable text ≡ true → j - i ≡ width_of (slice_range text i j)
+part-width text i j order end h =
+    sym (width_of-plain (slice_range text i j) (printables-plain (slice_range text i j) (printable-part text i j order end h)) ∙ length-slice_range text i j end)
 
 one-column : (b : ℕ) → is_printable b ≡ true → width_of (b ∷ []) ≡ 1
 one-column b h = width_of-plain (b ∷ []) (and_from (is_plain_byte b) true (printable-plain b h) refl)

@@ -64,7 +64,7 @@ pub(crate) fn begin_of(line: &str, width: usize) -> &str
     };
     for character in line.graphemes(true) {
         let end = front.end + character.len();
-        let Some(columns) = columns_within(line, width, front, end) else {
+        let Some(columns) = columns_within(line, width, false, front, end) else {
             return &line[..front.end];
         };
         front = Line {

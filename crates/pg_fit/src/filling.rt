@@ -1,16 +1,17 @@
 //! Lines that are filled with pieces of a text.
 
 ghost use Rattle.std.specs.Prelude.{◌≡◌, ◌+◌, ◌<◌, ◌≤◌, ◌++◌, MatchOption, flat_map, not, ◌==◌, [], ◌∷◌, ℕ, List, IfOk, length, slice_range, true, string_bytes};
-ghost use Rattle.std.specs.List.{position_or_len};
+ghost use Rattle.std.specs.List.{list_all, position_or_len};
 ghost use Rattle.std.specs.Str.{IsCharBoundary};
 ghost use Rattle.pg_layout.specs.Text.{Text, width_of};
 ghost use Rattle.unicode_segmentation.specs.Grapheme.{graphemes};
 ghost use Rattle.std.specs.List.{join_with_byte};
+ghost use Rattle.pg_fit.specs.Printable.{is_printable};
 ghost use Rattle.pg_fit.specs.Wrapping.{Piece, filled, characters, words, indented, parted};
 ghost use Rattle.pg_fit.specs.Inside.{IsNextWord, words_from};
 
-use crate::line::{Line, Part, columns_within, line_of};
-use pg_layout::get_line_width;
+use crate::controls::is_printable;
+use crate::line::{Line, Part, columns_within, line_of, width_of_part};
 use std::alloc::{AllocError, Allocator};
 use unicode_segmentation::UnicodeSegmentation;
 
@@ -19,10 +20,12 @@ use unicode_segmentation::UnicodeSegmentation;
 pub(crate) fn take<W: Allocator>(
     text: &str,
     width: usize,
+    printable: bool,
     line: Line,
     piece: Part,
     out: &mut String<W>,
 ) -> Result<Line, AllocError>
+    requires printable { printable ≡ true → list_all is_printable text.now ≡ true }
     requires line { line.begin ≤ line.end }
     requires columns { line.columns ≡ width_of (slice_range text.now line.begin line.end) }
     requires gap { line.end ≤ piece.begin }
@@ -43,9 +46,9 @@ pub(crate) fn take<W: Allocator>(
         (record { gap = slice_range text.now line.end piece.begin; text = slice_range text.now piece.begin piece.end } ∷ ps))) }
 {
     if line.begin == piece.begin {
-        return Ok(line_of(text, piece));
+        return Ok(line_of(text, printable, piece));
     }
-    if let Some(columns) = columns_within(text, width, line, piece.end) {
+    if let Some(columns) = columns_within(text, width, printable, line, piece.end) {
         return Ok(Line {
             begin: line.begin,
             end: piece.end,
@@ -54,7 +57,7 @@ pub(crate) fn take<W: Allocator>(
     }
     out.push_str(&text[line.begin..line.end])?;
     out.push('\n')?;
-    Ok(line_of(text, piece))
+    Ok(line_of(text, printable, piece))
 }
 
 /// Puts the characters of a part of the text, one after another, on the current line and on further
@@ -62,10 +65,12 @@ pub(crate) fn take<W: Allocator>(
 pub(crate) fn take_characters<W: Allocator>(
     text: &str,
     width: usize,
+    printable: bool,
     line: Line,
     piece: Part,
     out: &mut String<W>,
 ) -> Result<Line, AllocError>
+    requires printable { printable ≡ true → list_all is_printable text.now ≡ true }
     requires line { line.begin ≤ line.end }
     requires columns { line.columns ≡ width_of (slice_range text.now line.begin line.end) }
     requires gap { line.end ≤ piece.begin }
@@ -92,6 +97,7 @@ pub(crate) fn take_characters<W: Allocator>(
         line = take(
             text,
             width,
+            printable,
             line,
             Part {
                 begin: end,
@@ -153,13 +159,14 @@ pub(crate) fn take_words<W: Allocator>(
         string_bytes out.new ++ join_with_byte 10 (slice_range text.now r.begin r.end ∷ [])
         ≡ string_bytes out.old ++ join_with_byte 10 (filled width [] (flat_map (parted width) (indented (words text.now))))) }
 {
+    let printable = is_printable(text.as_bytes());
     let mut line = Line {
         begin: 0,
         end: 0,
         columns: 0,
     };
     'words: while let Some(word) = next_word(text, line.end) {
-        line = take_word(text, width, line, word, out)?;
+        line = take_word(text, width, printable, line, word, out)?;
     }
     Ok(line)
 }
@@ -168,10 +175,12 @@ pub(crate) fn take_words<W: Allocator>(
 fn take_word<W: Allocator>(
     text: &str,
     width: usize,
+    printable: bool,
     line: Line,
     word: Part,
     out: &mut String<W>,
 ) -> Result<Line, AllocError>
+    requires printable { printable ≡ true → list_all is_printable text.now ≡ true }
     requires line { line.begin ≤ line.end }
     requires columns { line.columns ≡ width_of (slice_range text.now line.begin line.end) }
     requires gap { line.end ≤ word.begin }
@@ -190,9 +199,9 @@ fn take_word<W: Allocator>(
         ++ join_with_byte 10 (filled width (slice_range text.now line.begin line.end)
         (parted width (record { gap = slice_range text.now line.end word.begin; text = slice_range text.now word.begin word.end }) ++ ps))) }
 {
-    if get_line_width(&text[word.begin..word.end]) <= width {
-        take(text, width, line, word, out)
+    if width_of_part(text, printable, word) <= width {
+        take(text, width, printable, line, word, out)
     } else {
-        take_characters(text, width, line, word, out)
+        take_characters(text, width, printable, line, word, out)
     }
 }

@@ -1,10 +1,11 @@
 //! A line that is being filled with pieces of a text, and how many columns it takes.
 
-ghost use Rattle.std.specs.Prelude.{◌≡◌, ◌<◌, ◌≤◌, chars, slice_range, MatchOption};
+ghost use Rattle.std.specs.Prelude.{◌≡◌, ◌<◌, ◌≤◌, true, chars, slice_range, MatchOption};
 ghost use Rattle.std.specs.List.{list_all};
 ghost use Rattle.std.specs.Str.{IsCharBoundary};
 ghost use Rattle.pg_layout.specs.Text.{width_of};
 ghost use Rattle.pg_fit.specs.Inside.{adds_up};
+ghost use Rattle.pg_fit.specs.Printable.{is_printable};
 
 use crate::controls::is_printable;
 use pg_layout::get_line_width;
@@ -24,8 +25,25 @@ pub(crate) struct Line {
     pub(crate) columns: usize,
 }
 
+/// How many columns a part of a text takes: of a printable text as many as it has bytes.
+#[inline(always)]
+pub(crate) fn width_of_part(text: &str, printable: bool, part: Part) -> usize
+    requires printable { printable ≡ true → list_all is_printable text.now ≡ true }
+    requires order { part.begin ≤ part.end }
+    requires begin { IsCharBoundary text.now part.begin }
+    requires end { IsCharBoundary text.now part.end }
+    ensures { result ≡ width_of (slice_range text.now part.begin part.end) }
+{
+    if printable {
+        part.end - part.begin
+    } else {
+        get_line_width(&text[part.begin..part.end])
+    }
+}
+
 /// The line of a piece alone.
-pub(crate) fn line_of(text: &str, piece: Part) -> Line
+pub(crate) fn line_of(text: &str, printable: bool, piece: Part) -> Line
+    requires printable { printable ≡ true → list_all is_printable text.now ≡ true }
     requires order { piece.begin ≤ piece.end }
     requires begin { IsCharBoundary text.now piece.begin }
     requires end { IsCharBoundary text.now piece.end }
@@ -36,17 +54,21 @@ pub(crate) fn line_of(text: &str, piece: Part) -> Line
     Line {
         begin: piece.begin,
         end: piece.end,
-        columns: get_line_width(&text[piece.begin..piece.end]),
+        columns: width_of_part(text, printable, piece),
     }
 }
 
 /// How many columns a line takes with what follows it up to a byte, if these are at most so many.
 /// Only what follows the line is measured if its characters add up, so that a line of n pieces
 /// isn't measured n times.
-///
-/// Only what is behind the line is measured where its characters add up, so that a line of n pieces isn't
-/// measured n times.
-pub(crate) fn columns_within(text: &str, width: usize, line: Line, end: usize) -> Option<usize>
+pub(crate) fn columns_within(
+    text: &str,
+    width: usize,
+    printable: bool,
+    line: Line,
+    end: usize,
+) -> Option<usize>
+    requires printable { printable ≡ true → list_all is_printable text.now ≡ true }
     requires line { line.begin ≤ line.end }
     requires order { line.end ≤ end }
     requires line_begin { IsCharBoundary text.now line.begin }
@@ -56,8 +78,12 @@ pub(crate) fn columns_within(text: &str, width: usize, line: Line, end: usize) -
     ensures { MatchOption result (width < width_of (slice_range text.now line.begin end)) (λ n. (n ≡ width_of (slice_range text.now line.begin end)) × (n ≤ width)) }
 {
     let more = &text[line.end..end];
-    if !adds_up(more) {
-        let columns = get_line_width(&text[line.begin..end]);
+    if printable || !adds_up(more) {
+        let whole = Part {
+            begin: line.begin,
+            end,
+        };
+        let columns = width_of_part(text, printable, whole);
         return if columns <= width {
             Some(columns)
         } else {

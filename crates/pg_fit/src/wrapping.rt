@@ -5,6 +5,7 @@ ghost use Rattle.std.specs.Str.{IsCharBoundary};
 ghost use Rattle.std.specs.List.{join_with_byte};
 ghost use Rattle.pg_fit.specs.Wrapping.{wrapped, wrapped_line, fits, filled, pieces};
 
+use crate::controls::is_printable;
 use crate::filling::{take_characters, take_words};
 use crate::line::{Line, Part};
 use pg_layout::{get_line_width, get_lines};
@@ -84,7 +85,14 @@ fn take_line<W: Allocator>(
                 begin: 0,
                 end: line.len(),
             };
-            let last = take_characters(line, width, begin, all, out)?;
+            let last = take_characters(
+                line,
+                width,
+                is_printable(line.as_bytes()),
+                begin,
+                all,
+                out,
+            )?;
             Ok(last)
         }
         Breaking::BetweenWords => {
