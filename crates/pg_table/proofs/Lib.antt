@@ -20,4 +20,5 @@ pub mod Filled
 pub mod Html
 pub mod Rearranged
 pub mod Setters
+pub mod Coloring
 mod Rulesets

@@ -12,3 +12,8 @@ pub set : {X F U E : Type 0} (done : Result U E) (r : Result X F) (new : X) (P :
 set (Ok u) r new P was p same = left r new P p same
 set (Err error) (Ok x) new P was p same = absurd (false≢true (was refl))
 set (Err error) (Err fault) new P was p same = tt
+
+-- what follows from what it left
+pub weaker : {V E P Q : Type 0} (done : Result V E) → (P → Q) → OnOk done P → OnOk done Q
+weaker (Ok value) then p = then p
+weaker (Err error) then p = tt

@@ -343,6 +343,31 @@ module _ (config : Config) (look : IsNarrowLook config) where
   pub told-alignment : (across : Settings AlignmentHorizontal) → IsNarrowLook (record config { alignment_horizontal = across })
   told-alignment across = record { lines = lines-beside config look.lines config.padding across; fills = fills-alignment across; margins = look.margins }
 
+-- ---- colours of paddings, and of the room beside texts
+
+module _ (config : Config) (look : IsNarrowLook config) where
+  fills-ground : (paddings : Settings (Sides (Option Color))) (beside : Settings (Option Color)) (p : Position) → HasNarrowFills (style_at (record config { padding_color = paddings; justification_color = beside }) p)
+  unfolding style_at get_padding get_justification
+  fills-ground paddings beside p = record { left = (look.fills p).left; right = (look.fills p).right; top = (look.fills p).top; bottom = (look.fills p).bottom; justification = (look.fills p).justification }
+
+  pub told-ground : (paddings : Settings (Sides (Option Color))) (beside : Settings (Option Color)) → IsNarrowLook (record config { padding_color = paddings; justification_color = beside })
+  told-ground paddings beside = record {
+    lines = record {
+      horizontals = look.lines.horizontals;
+      verticals = look.lines.verticals;
+      crossings = look.lines.crossings;
+      set_horizontals = look.lines.set_horizontals;
+      set_verticals = look.lines.set_verticals;
+      set_crossings = look.lines.set_crossings;
+      missing = look.lines.missing;
+      has_missing = look.lines.has_missing;
+      horizontal_parts = look.lines.horizontal_parts;
+      vertical_parts = look.lines.vertical_parts;
+    };
+    fills = fills-ground paddings beside;
+    margins = look.margins;
+  }
+
 -- ---- spans
 
 module _ (config : Config) (look : IsNarrowLook config) where

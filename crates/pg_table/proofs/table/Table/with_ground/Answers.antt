@@ -1,0 +1,22 @@
+use Rattle.std.proofs.Common.{◌≡◌, subst, sym}
+use Rattle.pg_config.specs.Config.{Config}
+use Rattle.pg_layout.specs.Terminal.{color_texts}
+use Rattle.pg_table.specs.Coloring.{AreColored, is_cell_of, with_ground}
+use Rattle.pg_table.specs.Even.{IsNarrowLook}
+use Rattle.pg_table.proofs.Setters.{left, set, weaker}
+use Rattle.pg_table.proofs.StraightTables.{told-ground}
+use Rattle.pg_table.proofs.table.Table.with_ground.Goals as goal
+
+pub returns-clause-config : goal.returns-clause-config
+returns-clause-config g c = set c.lay_ground-set.result c.if_set.result c.lay_ground-set.new.self (λ t. t.config ≡ with_ground c.args.entity (color_texts c.args.color) c.args.self.config) c.if_set.ensures.set c.lay_ground-set.ensures.config c.if_set.ensures.same
+
+pub returns-clause-colors : goal.returns-clause-colors
+returns-clause-colors g c = set c.lay_ground-set.result c.if_set.result c.lay_ground-set.new.self (λ t. AreColored (is_cell_of c.args.entity c.args.self.rows) (color_texts c.args.color) c.args.self.colors t.colors) c.if_set.ensures.set c.lay_ground-set.ensures.colors c.if_set.ensures.same
+
+pub returns-clause-rows : goal.returns-clause-rows
+returns-clause-rows g c = left c.if_set.result c.lay_ground-set.new.self (λ t. t.rows ≡ c.args.self.rows) c.lay_ground-set.ensures.rows c.if_set.ensures.same
+
+pub returns-clause-narrow : goal.returns-clause-narrow
+returns-clause-narrow g c = λ look.
+    set c.lay_ground-set.result c.if_set.result c.lay_ground-set.new.self (λ t. IsNarrowLook t.config) c.if_set.ensures.set
+    (weaker c.lay_ground-set.result (λ is. subst (λ (config : Config). IsNarrowLook config) (sym is) (told-ground c.args.self.config look _ _)) c.lay_ground-set.ensures.config) c.if_set.ensures.same
