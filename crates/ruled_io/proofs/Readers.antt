@@ -9,7 +9,7 @@ use Rattle.ruled_io.specs.declared.reader.Reader.{Reader}
 use Rattle.ruled_io.specs.declared.reader.Reader.TheVariants.{Rows, Lines}
 use Rattle.ruled_io.specs.declared.reader.Reading.{Reading}
 use Rattle.ruled_csv.proofs.Readers as csv
-use Rattle.ruled_json.proofs.AtOnce as json
+use Rattle.ruled_json.proofs.StreamedLines as json
 use Rattle.ruled_io.specs.declared.reader.Reading.TheVariants.{More, Done}
 use Rattle.std.specs.Prelude.{IfOk, option_map, if◌then◌else◌}
 use Rattle.std.specs.List.{take_while}
@@ -26,7 +26,7 @@ use Rattle.ruled_csv.specs.declared.fault.RowsFault.{RowsFault}
 use Rattle.ruled_csv.specs.declared.fault.RowsFault.TheVariants as rows_fault
 use Rattle.ruled_csv.specs.declared.reader.RowReader.{RowReader}
 use Rattle.ruled_json.specs.Faults as json_faults
-use Rattle.ruled_json.specs.Reading as json_reading
+use Rattle.ruled_json.specs.Streamed as json_reading
 use Rattle.ruled_json.specs.Streamed as json_streamed
 use Rattle.ruled_json.specs.declared.fault.JsonFault.{JsonFault}
 use Rattle.ruled_json.specs.declared.fault.JsonFault.TheVariants as json_fault

@@ -16,8 +16,8 @@ use Rattle.ruled_json.specs.Rows.{Rules, columns_of, has_all, line_rows_of, line
 use Rattle.ruled_json.specs.Streamed.{LineRules, fault_behind, first_columns, first_fault_behind, late_fault, left_of, lines_above_fault, number_behind, sound_line_rows, streamed_line_fault, streamed_table}
 use Rattle.ruled_json.specs.declared.fault.JsonFault.{JsonFault}
 use Rattle.ruled_json.specs.declared.fault.JsonFault.TheVariants.{NoColumn}
-use Rattle.ruled_json.specs.declared.place.Place.TheVariants.{Line}
-use Rattle.ruled_json.proofs.AtOnce.{fault-as-at-once}
+use Rattle.ruled_json.specs.declared.fault.Place.TheVariants.{Line}
+use Rattle.ruled_json.proofs.StreamedLines.{fault-as-at-once}
 
 -- ---- lines
 

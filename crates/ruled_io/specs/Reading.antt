@@ -6,7 +6,7 @@ use Rattle.ruled_csv.specs.Faults as csv_faults
 use Rattle.ruled_csv.specs.Reading as csv_reading
 use Rattle.ruled_csv.specs.Rows as csv_rows
 use Rattle.ruled_csv.specs.declared.dialect.Dialect.{Dialect}
-use Rattle.ruled_json.specs.Reading as json_reading
+use Rattle.ruled_json.specs.Streamed as json_reading
 use Rattle.ruled_json.specs.Streamed as json_streamed
 use Rattle.ruled_json.specs.Streamed.{LineRules}
 use Rattle.ruled_io.specs.Faults.{but_line_in, fault_of_json, fault_of_rows, is_read, read_part}

@@ -1,5 +1,4 @@
-pub mod AtOnce
 mod Views
 mod Flat
 mod Tables
-mod StreamedLines
+pub mod StreamedLines

@@ -10,7 +10,7 @@ use Rattle.std.proofs.lemmas.Slice.Eq.{bytes_eq-Decides}
 use Rattle.json.specs.Find.{get, get_member, later_or}
 use Rattle.json.specs.Json.{Json, null, boolean, number, string, array, object, Members, no_members, member}
 use Rattle.json.specs.Strict.{keys}
-use Rattle.ruled_json.specs.Reading.{padded, AppendsRest, HasRecords, columns_in}
+use Rattle.ruled_json.specs.Streamed.{padded, AppendsRest, HasRecords, columns_in, LineRules, ended_table, first_columns, late_fault, left_of, streamed_table}
 use Rattle.ruled_json.specs.Rows.{cell_text, columns_of, has_all, names_in, row_of, with_name, table_in}
 use Rattle.std.specs.Prelude.{◌==◌, count_by, not, if◌then◌else◌}
 use Rattle.std.proofs.lemmas.List.Sums.{fold-append, sum_by-cons}
@@ -21,11 +21,10 @@ use Rattle.json.specs.Value.{members_view, value_view}
 use Rattle.json.specs.declared.value.Value.{Value}
 use Rattle.std.proofs.lemmas.Bool.Decides.{nat_tests}
 use Rattle.csv.specs.Records.{fields_of}
-use Rattle.ruled_json.specs.Streamed.{LineRules, ended_table, first_columns, late_fault, left_of, streamed_table}
 use Rattle.ruled_json.specs.declared.line_table.LineTable.{LineTable}
 use Rattle.ruled_json.specs.declared.fault.JsonFault.{JsonFault}
 use Rattle.ruled_json.specs.declared.fault.JsonFault.TheVariants.{NoColumn}
-use Rattle.ruled_json.specs.declared.place.Place.TheVariants.{Line}
+use Rattle.ruled_json.specs.declared.fault.Place.TheVariants.{Line}
 
 -- ---- rows whose columns grow behind them
 

@@ -25,8 +25,8 @@ use Rattle.std.specs.Result.{IsErrAnd}
 use Rattle.std.proofs.lemmas.Str.{IsUtf8-from_is_utf8, is_utf8-from_IsUtf8}
 use Rattle.ruled_json.specs.Faults.{Tells, but_line, but_near, is_value, member_fault, rows_fault, text_fault, value_fault}
 use Rattle.ruled_json.specs.declared.fault.JsonFault.{JsonFault}
-use Rattle.ruled_json.specs.declared.place.Place.TheVariants.{Near}
-use Rattle.ruled_json.specs.declared.place.Place.{Place}
+use Rattle.ruled_json.specs.declared.fault.Place.TheVariants.{Near}
+use Rattle.ruled_json.specs.declared.fault.Place.{Place}
 use Rattle.ruled_json.specs.declared.fault.JsonFault.TheVariants.{Encoding, Syntax, NoMember, Memory}
 use Rattle.std.specs.Cmp.Lexicographic.{pointwise}
 use Rattle.csv.specs.Reading.{is_bom, strip_bom}
@@ -102,6 +102,9 @@ records_have_numbers (number s) h = All-nil HasNumbers
 records_have_numbers (string s) h = All-nil HasNumbers
 records_have_numbers (array js) h = items_have_numbers js h
 records_have_numbers (object ms) h = All-cons HasNumbers (object ms) [] h (All-nil HasNumbers)
+
+pub those_have_numbers : (j : Json) (records : List Json) → records ≡ records_in j → HasNumbers j → All HasNumbers records
+those_have_numbers j records are h = subst (All HasNumbers) (sym are) (records_have_numbers j h)
 
 -- and those of a member
 got : (name : List ℕ) (j : Json) (found : Option Json) → HasNumbers j → found ≡ get name j → IfSome found HasNumbers

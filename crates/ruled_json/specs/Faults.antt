@@ -6,8 +6,8 @@ use Rattle.json.specs.Json.{Json, null, boolean, number, string, array, object, 
 use Rattle.ruled_json.specs.Rows.{is_blank, lines_of, list_of, member_at}
 use Rattle.ruled_json.specs.declared.fault.JsonFault.{JsonFault}
 use Rattle.ruled_json.specs.declared.fault.JsonFault.TheVariants.{Encoding, Syntax, NoMember, NoRecords, NoObject, NoColumn, Memory}
-use Rattle.ruled_json.specs.declared.place.Place.{Place}
-use Rattle.ruled_json.specs.declared.place.Place.TheVariants.{Near, Record, Line}
+use Rattle.ruled_json.specs.declared.fault.Place.{Place}
+use Rattle.ruled_json.specs.declared.fault.Place.TheVariants.{Near, Record, Line}
 
 -- a place, but for the line on which the fault of a whole input is seen
 abbrev pub but_near : Place → Place

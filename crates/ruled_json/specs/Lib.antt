@@ -1,4 +1,3 @@
 pub mod Rows
 pub mod Faults
 pub mod Streamed
-pub mod Reading

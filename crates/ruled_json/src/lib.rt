@@ -7,13 +7,11 @@ mod line_table;
 mod lines;
 mod member_names;
 mod objects;
-mod place;
 mod value;
 mod walk;
 
-pub use crate::fault::JsonFault;
+pub use crate::fault::{JsonFault, Place};
 pub use crate::line_reader::LineReader;
 pub use crate::line_table::read_line_rows;
 pub use crate::member_names::MemberRules;
-pub use crate::place::Place;
 pub use crate::value::{is_value, read_rows};

@@ -4,7 +4,7 @@ ghost use Rattle.std.specs.Prelude.{◌≡◌, ◌∷◌, ◌++◌, [], ℕ, Lis
 ghost use Rattle.csv.specs.Reading.{strip_bom};
 ghost use Rattle.csv.specs.Records.{fields_of};
 ghost use Rattle.ruled_json.specs.Faults.{Tells};
-ghost use Rattle.ruled_json.specs.Reading.{AppendsRest, Foretells, HasLines, HasRead, NoFeed, OnFault, without_front};
+ghost use Rattle.ruled_json.specs.Streamed.{AppendsRest, Foretells, HasLines, HasRead, NoFeed, OnFault, without_front};
 ghost use Rattle.ruled_json.specs.Rows.{records_on, rules_of};
 ghost use Rattle.ruled_json.specs.Streamed.{LineRules, ended_line_rows, ended_table, fault_behind, sound_line_rows, streamed_line_fault, streamed_table};
 

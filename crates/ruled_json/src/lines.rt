@@ -4,11 +4,10 @@ ghost use Rattle.std.specs.Prelude.{◌≡◌, ◌==◌, ◌∷◌, ◌++◌, Al
 ghost use Rattle.json.specs.Tree.{HasNumbers};
 ghost use Rattle.json.specs.Value.{value_view};
 ghost use Rattle.ruled_json.specs.Faults.{Tells, line_after, line_fault};
-ghost use Rattle.ruled_json.specs.Reading.{NoFeed};
+ghost use Rattle.ruled_json.specs.Streamed.{NoFeed};
 ghost use Rattle.ruled_json.specs.Rows.{is_blank, lines_of, value_on};
 
-use crate::fault::JsonFault;
-use crate::place::Place;
+use crate::fault::{JsonFault, Place};
 use crate::value::{check_record, value_of};
 use json::{Scratch, Value};
 use memchr::memchr;

@@ -9,7 +9,7 @@ ghost use Rattle.indexmap.specs.IndexMap.{get_by};
 ghost use Rattle.json.specs.Find.{get, get_member};
 ghost use Rattle.json.specs.Tree.{HasNumbers};
 ghost use Rattle.json.specs.Value.{members_view, value_view};
-ghost use Rattle.ruled_json.specs.Reading.{padded};
+ghost use Rattle.ruled_json.specs.Streamed.{padded};
 ghost use Rattle.ruled_json.specs.Rows.{cell_text, has_all, names_in, plain_rules, row_of, rules_of, with_name};
 
 use csv::StringRecord;
@@ -143,7 +143,7 @@ impl MemberNames {
     }
 
     // Whether there is a column of this name; looks at this place first.
-    #[tactic(auto, using(crate::proofs::AtOnce::on_true))]
+    #[tactic(auto, using(crate::proofs::StreamedLines::on_true))]
     fn has_at(&self, at: usize, name: &str) -> bool
         ensures { result ≡ list_any (bytes_eq name.now) (map string_bytes self.now.names.keys) }
     {
@@ -198,7 +198,7 @@ impl MemberNames {
     }
 
     // Adds a column of this name, unless there is one; looks at this place first.
-    #[tactic(auto, using(crate::proofs::Views::no_new_name, crate::proofs::AtOnce::on_true))]
+    #[tactic(auto, using(crate::proofs::Views::no_new_name, crate::proofs::StreamedLines::on_true))]
     fn add_at(&mut self, alloc: Global, at: usize, name: &str) -> Result<(), AllocError>
         ensures { OnOk result (map string_bytes self.new.names.keys ≡ with_name (map string_bytes self.old.names.keys) name.now) }
     {

@@ -8,12 +8,11 @@ ghost use Rattle.json.specs.Value.{value_view};
 ghost use Rattle.ruled_json.specs.Faults.{Tells, but_near, first_fault, is_value, record_fault, rows_fault, text_fault, value_fault};
 ghost use Rattle.ruled_json.specs.Rows.{columns_of, member_at, records_in, rows_of, rules_of, shown_record, table_of};
 ghost use Rattle.ruled_json.specs.declared.fault.JsonFault.TheVariants.{Syntax};
-ghost use Rattle.ruled_json.specs.declared.place.Place.TheVariants.{Near};
+ghost use Rattle.ruled_json.specs.declared.fault.Place.TheVariants.{Near};
 
-use crate::fault::JsonFault;
+use crate::fault::{JsonFault, Place};
 use crate::member_names::{MemberNames, MemberRules};
 use crate::objects::flat_records;
-use crate::place::Place;
 use crate::walk::offset_of_bad;
 use bumpalo::Bump;
 use csv::StringRecord;
@@ -158,7 +157,7 @@ fn shown_table(
 }
 
 // The rows of a value, with these rules.
-#[tactic(auto, using(crate::proofs::Views::records_have_numbers))]
+#[tactic(auto, using(crate::proofs::Views::those_have_numbers))]
 fn rows_in(
     alloc: Global,
     rules: &MemberRules,

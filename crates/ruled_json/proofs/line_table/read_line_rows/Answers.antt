@@ -2,11 +2,9 @@ use Rattle.std.proofs.Common.{◌≡◌, ◌∙◌, ℕ, List, [], ap, arith, eq
 use Rattle.std.proofs.lemmas.List.{nil_from_length}
 use Rattle.csv.specs.Records.{fields_of}
 use Rattle.ruled_json.specs.Faults.{but_line, line_rows_fault}
-use Rattle.ruled_json.specs.Reading.{AppendsRest, HasLines}
+use Rattle.ruled_json.specs.Streamed.{AppendsRest, HasLines, LineRules, ended_table, first_fault_behind, streamed_table}
 use Rattle.ruled_json.specs.Rows.{line_rows_of, records_on, rules_of}
-use Rattle.ruled_json.specs.Streamed.{LineRules, ended_table, first_fault_behind, streamed_table}
-use Rattle.ruled_json.proofs.AtOnce.{all-texts, bad-at, next-lines, next-rows, texts, whole-fault, whole-rows}
-use Rattle.ruled_json.proofs.StreamedLines.{all-right}
+use Rattle.ruled_json.proofs.StreamedLines.{all-texts, bad-at, next-lines, next-rows, texts, whole-fault, whole-rows, all-right}
 use Rattle.ruled_json.proofs.Tables.{no-table}
 use Rattle.ruled_json.proofs.Views.{handed_on}
 use Rattle.ruled_json.proofs.line_table.read_line_rows.Goals as goal

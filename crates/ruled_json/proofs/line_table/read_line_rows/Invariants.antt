@@ -1,8 +1,7 @@
 use Rattle.std.proofs.Common.{◌≡◌, map, take}
 use Rattle.csv.specs.Records.{fields_of}
-use Rattle.ruled_json.specs.Reading.{HasLines}
+use Rattle.ruled_json.specs.Streamed.{HasLines, LineRules, ended_table}
 use Rattle.ruled_json.specs.Rows.{records_on, rules_of}
-use Rattle.ruled_json.specs.Streamed.{LineRules, ended_table}
 use Rattle.ruled_json.proofs.line_table.read_line_rows.Given as goal
 
 abbrev pub invariant-loop-line : goal.invariant-loop-line

@@ -2,11 +2,9 @@ use Rattle.std.proofs.Common.{◌≡◌, ◌∙◌, ◌∷◌, ◌++◌, ℕ, Li
 use Rattle.std.proofs.lemmas.Bool.{eqb-true}
 use Rattle.std.proofs.lemmas.List.{nil_from_length}
 use Rattle.csv.specs.Records.{fields_of}
-use Rattle.ruled_json.specs.Reading.{AppendsRest, HasLines, HasRead, without_front}
+use Rattle.ruled_json.specs.Streamed.{AppendsRest, HasLines, HasRead, without_front, ended_line_rows, ended_lines, ended_table, fault_behind, sound_line_rows, streamed_line_fault, streamed_table}
 use Rattle.ruled_json.specs.Rows.{records_on}
-use Rattle.ruled_json.specs.Streamed.{ended_line_rows, ended_lines, ended_table, fault_behind, sound_line_rows, streamed_line_fault, streamed_table}
-use Rattle.ruled_json.proofs.StreamedLines.{fault-is, read-more, rows-above, rows-more}
-use Rattle.ruled_json.proofs.AtOnce.{foretold, on-fault, on-ok}
+use Rattle.ruled_json.proofs.StreamedLines.{fault-is, read-more, rows-above, rows-more, foretold, on-fault, on-ok}
 use Rattle.ruled_json.proofs.line_reader.LineReader.end_line.Goals as goal
 
 pub returns-then-is_empty-clause-read : goal.returns-then-is_empty-clause-read

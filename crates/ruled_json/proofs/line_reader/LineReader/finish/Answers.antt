@@ -1,12 +1,10 @@
 use Rattle.std.proofs.Common.{◌≡◌, ◌≢◌, ◌∙◌, ◌∷◌, ◌++◌, ℕ, List, [], Global, Some, Vec, ap, map, subst, sym}
 use Rattle.csv.specs.Records.{fields_of}
 use Rattle.ruled_json.specs.Faults.{but_line}
-use Rattle.ruled_json.specs.Reading.{AppendsRest, HasLines, without_front}
+use Rattle.ruled_json.specs.Streamed.{AppendsRest, HasLines, without_front, ended_line_rows, ended_lines, ended_table, fault_behind, sound_line_rows, streamed_line_fault, streamed_table}
 use Rattle.ruled_json.specs.Rows.{records_on}
-use Rattle.ruled_json.specs.Streamed.{ended_line_rows, ended_lines, ended_table, fault_behind, sound_line_rows, streamed_line_fault, streamed_table}
 use Rattle.ruled_json.specs.declared.fault.JsonFault.TheVariants.{Memory}
-use Rattle.ruled_json.proofs.StreamedLines.{last-above, last-fault, last-right, last-rows}
-use Rattle.ruled_json.proofs.AtOnce.{sound-handed-on}
+use Rattle.ruled_json.proofs.StreamedLines.{last-above, last-fault, last-right, last-rows, sound-handed-on}
 use Rattle.ruled_json.proofs.Tables.{joined}
 use Rattle.ruled_json.proofs.Views.{handed_on}
 use Rattle.ruled_json.proofs.line_reader.LineReader.finish.Goals as goal

@@ -1,10 +1,8 @@
 use Rattle.std.proofs.Common.{◌≡◌, ◌∙◌, ◌∷◌, ◌++◌, ℕ, List, [], ap, map, refl, subst, sym}
 use Rattle.std.proofs.lemmas.List.{append_assoc}
 use Rattle.csv.specs.Records.{fields_of}
-use Rattle.ruled_json.specs.Reading.{AppendsRest, HasRead}
-use Rattle.ruled_json.specs.Streamed.{ended_line_rows, sound_line_rows, streamed_line_fault}
-use Rattle.ruled_json.proofs.StreamedLines.{next-line, parted, read-all, rows-on}
-use Rattle.ruled_json.proofs.AtOnce.{foretold-handed-on, sound-handed-on}
+use Rattle.ruled_json.specs.Streamed.{AppendsRest, HasRead, ended_line_rows, sound_line_rows, streamed_line_fault}
+use Rattle.ruled_json.proofs.StreamedLines.{next-line, parted, read-all, rows-on, foretold-handed-on, sound-handed-on}
 use Rattle.ruled_json.proofs.Tables.{joined}
 use Rattle.ruled_json.proofs.line_reader.LineReader.read.Goals as goal
 

@@ -1,7 +1,6 @@
 use Rattle.std.proofs.Common.{◌≡◌, ◌++◌, ℕ, List, length, map}
 use Rattle.csv.specs.Records.{fields_of}
-use Rattle.ruled_json.specs.Reading.{AppendsRest, HasRead}
-use Rattle.ruled_json.specs.Streamed.{LineRules, ended_line_rows}
+use Rattle.ruled_json.specs.Streamed.{AppendsRest, HasRead, LineRules, ended_line_rows}
 use Rattle.ruled_json.proofs.line_reader.LineReader.read.Given as goal
 
 -- the bytes that are read are those in front of the rest

@@ -1,9 +1,8 @@
 use Rattle.std.proofs.Common.{◌∷◌, ◌++◌, ℕ, List, [], OnOk, map, subst}
 use Rattle.csv.specs.Records.{fields_of}
 use Rattle.ruled_json.specs.Faults.{Tells}
-use Rattle.ruled_json.specs.Reading.{AppendsRest, HasLines}
+use Rattle.ruled_json.specs.Streamed.{AppendsRest, HasLines, ended_table, fault_behind}
 use Rattle.ruled_json.specs.Rows.{records_on}
-use Rattle.ruled_json.specs.Streamed.{ended_table, fault_behind}
 use Rattle.ruled_json.proofs.line_reader.LineReader.read_line.Goals as goal
 
 pub returns-clause-read : goal.returns-clause-read

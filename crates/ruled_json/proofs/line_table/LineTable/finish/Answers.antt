@@ -1,9 +1,8 @@
 use Rattle.std.proofs.Common.{◌≡◌, ◌<◌, ◌++◌, arith, map, string_bytes}
 use Rattle.csv.specs.Records.{fields_of}
-use Rattle.ruled_json.specs.Reading.{AppendsRest, columns_in}
+use Rattle.ruled_json.specs.Streamed.{AppendsRest, columns_in, ended_table, streamed_table}
 use Rattle.ruled_json.specs.Rows.{table_in}
-use Rattle.ruled_json.specs.Streamed.{ended_table, streamed_table}
-use Rattle.ruled_json.proofs.AtOnce.{on-ok}
+use Rattle.ruled_json.proofs.StreamedLines.{on-ok}
 use Rattle.ruled_json.proofs.Tables.{rest-held, rest-known}
 use Rattle.ruled_json.proofs.line_table.LineTable.finish.Goals as goal
 

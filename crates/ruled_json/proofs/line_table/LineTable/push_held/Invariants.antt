@@ -1,6 +1,6 @@
 use Rattle.std.proofs.Common.{◌≡◌, ◌++◌, map, length}
 use Rattle.csv.specs.Records.{fields_of}
-use Rattle.ruled_json.specs.Reading.{columns_in, padded}
+use Rattle.ruled_json.specs.Streamed.{columns_in, padded}
 use Rattle.ruled_json.proofs.line_table.LineTable.push_held.Given as goal
 
 abbrev pub invariant-loop-row : goal.invariant-loop-row

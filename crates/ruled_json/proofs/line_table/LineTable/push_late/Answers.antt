@@ -2,7 +2,7 @@ use Rattle.std.proofs.Common.{◌∙◌, ◌∷◌, ◌++◌, [], ap, sym, map, 
 use Rattle.std.proofs.lemmas.List.{map-append}
 use Rattle.csv.specs.Records.{fields_of}
 use Rattle.json.specs.Value.{value_view}
-use Rattle.ruled_json.specs.Reading.{columns_in}
+use Rattle.ruled_json.specs.Streamed.{columns_in}
 use Rattle.ruled_json.specs.Rows.{row_of}
 use Rattle.ruled_json.proofs.Tables.{row-behind}
 use Rattle.ruled_json.proofs.line_table.LineTable.push_late.Goals as goal

@@ -2,8 +2,7 @@ use Rattle.std.proofs.Common.{Bool, ◌≡◌, ◌∙◌, ◌∷◌, ◌++◌, [
 use Rattle.csv.specs.Records.{fields_of}
 use Rattle.json.specs.Value.{value_view}
 use Rattle.ruled_json.specs.Rows.{record_on, records_on, shown_record, value_on}
-use Rattle.ruled_json.proofs.AtOnce.{taken-fault, taken-read, taken-rows}
-use Rattle.ruled_json.proofs.StreamedLines.{blank-sound, lines-more, no-rows, same-records, without-record}
+use Rattle.ruled_json.proofs.StreamedLines.{taken-fault, taken-read, taken-rows, blank-sound, lines-more, no-rows, same-records, without-record}
 use Rattle.ruled_json.proofs.line_table.LineTable.read.Goals as goal
 
 pub returns-then-self-clause-read : goal.returns-then-self-clause-read

@@ -2,10 +2,9 @@ use Rattle.std.proofs.Common.{◌≡◌, ◌<◌, ◌-◌, ◌∷◌, ◌++◌, 
 use Rattle.std.proofs.lemmas.List.{length-append}
 use Rattle.csv.specs.Records.{fields_of}
 use Rattle.json.specs.Value.{value_view}
-use Rattle.ruled_json.specs.Reading.{AppendsRest, columns_in}
+use Rattle.ruled_json.specs.Streamed.{AppendsRest, columns_in, ended_table, left_of}
 use Rattle.ruled_json.specs.Rows.{table_in}
-use Rattle.ruled_json.specs.Streamed.{ended_table, left_of}
-use Rattle.ruled_json.proofs.AtOnce.{on-ok}
+use Rattle.ruled_json.proofs.StreamedLines.{on-ok}
 use Rattle.ruled_json.proofs.Tables.{all-rows, first-held, first-records, grown-columns, late-rows, no-rows-yet}
 use Rattle.ruled_json.proofs.line_table.LineTable.take.Goals as goal
 
