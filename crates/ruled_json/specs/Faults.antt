@@ -1,5 +1,6 @@
 -- Why JSON holds no rows.
-use Rattle.std.specs.Prelude.{◌≡◌, ◌≢◌, ℕ, ◌+◌, ◌-◌, ◌^◌, min, ◌==◌, take, length, count_by, not, ◌&&◌, Bool, List, [], ◌∷◌, Option, Some, None, is_none, is_some, option_and_then, Result, Ok, Err, if◌then◌else◌, ◌++◌, codes, decimal}
+use Rattle.std.specs.Prelude.{◌≡◌, ◌≢◌, ℕ, ◌+◌, ◌-◌, ◌^◌, min, ◌==◌, take, length, count_by, not, ◌&&◌, Bool, List}
+use Rattle.std.specs.Prelude.{[], ◌∷◌, Option, Some, None, is_none, is_some, option_and_then, Result, Ok, Err, if◌then◌else◌, ◌++◌, codes, decimal}
 use Rattle.std.specs.Option.{option_map_or, option_or}
 use Rattle.std.specs.Str.{is_utf8}
 use Rattle.json.specs.Json.{Json, null, boolean, number, string, array, object, document}

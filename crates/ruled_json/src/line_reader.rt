@@ -87,10 +87,12 @@ impl LineReader {
         ensures read { (rules : LineRules) (above : List (List ℕ)) → HasLines rules above self.old.table
             → OnOk result (HasLines rules (above ++ without_front self.old.is_front line.now ∷ []) self.new.table) }
         ensures rows { (rules : LineRules) (above : List (List ℕ)) → HasLines rules above self.old.table
-            → OnOk result (AppendsRest (ended_table rules (records_on rules.members above)) (ended_table rules (records_on rules.members (above ++ without_front self.old.is_front line.now ∷ []))) (map fields_of rows.old.items) (map fields_of rows.new.items)) }
+            → OnOk result (AppendsRest (ended_table rules (records_on rules.members above)) (ended_table rules (records_on rules.members (above ++ without_front self.old.is_front line.now ∷ [])))
+            (map fields_of rows.old.items) (map fields_of rows.new.items)) }
         ensures fault { (rules : LineRules) (above : List (List ℕ)) → HasLines rules above self.old.table → Tells (fault_behind rules above (without_front self.old.is_front line.now)) result }
         ensures sound { (rules : LineRules) (above : List (List ℕ)) → HasLines rules above self.old.table
-            → OnFault result (AppendsRest (ended_table rules (records_on rules.members above)) (streamed_table rules (records_on rules.members above)) (map fields_of rows.old.items) (map fields_of rows.new.items)) }
+            → OnFault result (AppendsRest (ended_table rules (records_on rules.members above)) (streamed_table rules (records_on rules.members above))
+            (map fields_of rows.old.items) (map fields_of rows.new.items)) }
     {
         let text = line_text(self.is_front, line);
         self.is_front = false;

@@ -104,7 +104,8 @@ impl LineTable {
         requires numbers { HasNumbers (value_view value.now) }
         ensures fault { Tells (if has_all (columns_in self.now) (value_view value.now) then None else Some (NoColumn (Line number))) result }
         ensures rows { (above : List Json)
-            → OnOk result (AppendsRest (table_in (string_bytes self.now.null) (columns_in self.now) above) (table_in (string_bytes self.now.null) (columns_in self.now) (above ++ value_view value.now ∷ [])) (map fields_of rows.old.items) (map fields_of rows.new.items)) }
+            → OnOk result (AppendsRest (table_in (string_bytes self.now.null) (columns_in self.now) above) (table_in (string_bytes self.now.null) (columns_in self.now) (above ++ value_view value.now ∷ []))
+            (map fields_of rows.old.items) (map fields_of rows.new.items)) }
         ensures sound { OnFault result (map fields_of rows.new.items ≡ map fields_of rows.old.items) }
     {
         if !self.names.has_all(value) {
@@ -155,10 +156,12 @@ impl LineTable {
     ) -> Result<(), JsonFault>
         ensures read { (rules : LineRules) (above : List (List ℕ)) → HasLines rules above self.old → OnOk result (HasLines rules (above ++ line.now ∷ []) self.new) }
         ensures rows { (rules : LineRules) (above : List (List ℕ)) → HasLines rules above self.old
-            → OnOk result (AppendsRest (ended_table rules (records_on rules.members above)) (ended_table rules (records_on rules.members (above ++ line.now ∷ []))) (map fields_of rows.old.items) (map fields_of rows.new.items)) }
+            → OnOk result (AppendsRest (ended_table rules (records_on rules.members above)) (ended_table rules (records_on rules.members (above ++ line.now ∷ [])))
+            (map fields_of rows.old.items) (map fields_of rows.new.items)) }
         ensures fault { (rules : LineRules) (above : List (List ℕ)) → HasLines rules above self.old → Tells (fault_behind rules above line.now) result }
         ensures sound { (rules : LineRules) (above : List (List ℕ)) → HasLines rules above self.old
-            → OnFault result (AppendsRest (ended_table rules (records_on rules.members above)) (streamed_table rules (records_on rules.members above)) (map fields_of rows.old.items) (map fields_of rows.new.items)) }
+            → OnFault result (AppendsRest (ended_table rules (records_on rules.members above)) (streamed_table rules (records_on rules.members above))
+            (map fields_of rows.old.items) (map fields_of rows.new.items)) }
     {
         let number = self.number;
         self.number = line_after(number, line);
