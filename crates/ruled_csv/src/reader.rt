@@ -13,7 +13,7 @@ use crate::fault::RowsFault;
 use crate::lines::ends_line;
 use crate::scanner::Scanner;
 use crate::words::words_in;
-use csv::{ByteRecord, StringRecord};
+use ruled_row::{RowBuffer, TextRow};
 use std::alloc::{AllocError, Global};
 
 // Whether a row may have so many fields.
@@ -26,14 +26,14 @@ fn has_length(dialect: Dialect, columns: usize, fields: usize) -> bool
 // The text of a row that begins on this line, or what is wrong with it.
 #[tactic(auto, using(crate::proofs::SoundRows::row_right, crate::proofs::SoundRows::row_wrong))]
 fn text_of(
-    fields: ByteRecord,
+    fields: &RowBuffer,
     row: usize,
     line: usize,
     dialect: Dialect,
     columns: usize,
-) -> Result<StringRecord, RowsFault>
-    ensures same { IfOk result (λ text. fields_of text ≡ fields_of fields) }
-    ensures fault { (number : ℕ) → row ≡ number_of number → Tells (row_fault dialect columns number (fields_of fields)) result }
+) -> Result<TextRow, RowsFault>
+    ensures same { IfOk result (λ text. fields_of text ≡ fields_of fields.now) }
+    ensures fault { (number : ℕ) → row ≡ number_of number → Tells (row_fault dialect columns number (fields_of fields.now)) result }
 {
     let count = fields.len();
     if !has_length(dialect, columns, count) {
@@ -44,9 +44,9 @@ fn text_of(
             columns,
         });
     }
-    match StringRecord::from_byte_record(fields) {
-        Ok(text) => Ok(text),
-        Err(_) => Err(RowsFault::Encoding { row, line }),
+    match fields.to_row()? {
+        Some(text) => Ok(text),
+        None => Err(RowsFault::Encoding { row, line }),
     }
 }
 
@@ -84,13 +84,13 @@ impl RowReader {
     }
 
     // Appends a row that ended.
-    fn give(&mut self, fields: ByteRecord, rows: &mut Vec<StringRecord>) -> Result<(), RowsFault>
+    fn give(&mut self, fields: &RowBuffer, rows: &mut Vec<TextRow>) -> Result<(), RowsFault>
         ensures left { self.new.is_left_out ≡ self.old.is_left_out }
         ensures scanner { self.new.scanner ≡ self.old.scanner }
-        ensures rows { OnOk result (map fields_of rows.new.items ≡ map fields_of rows.old.items ++ fields_of fields ∷ []) }
+        ensures rows { OnOk result (map fields_of rows.new.items ≡ map fields_of rows.old.items ++ fields_of fields.now ∷ []) }
         ensures kept { OnErr result (rows.new.items ≡ rows.old.items) }
-        ensures counted { (above : List (List (List ℕ))) → Counts above self.old.rows self.old.columns → OnOk result (Counts (above ++ fields_of fields ∷ []) self.new.rows self.new.columns) }
-        ensures fault { (above : List (List (List ℕ))) → Counts above self.old.rows self.old.columns → Tells (fault_below self.old.scanner.dialect above (Some (fields_of fields))) result }
+        ensures counted { (above : List (List (List ℕ))) → Counts above self.old.rows self.old.columns → OnOk result (Counts (above ++ fields_of fields.now ∷ []) self.new.rows self.new.columns) }
+        ensures fault { (above : List (List (List ℕ))) → Counts above self.old.rows self.old.columns → Tells (fault_below self.old.scanner.dialect above (Some (fields_of fields.now))) result }
     {
         let columns = self.columns.unwrap_or(fields.len());
         let (line, dialect) = (self.scanner.begun(), self.scanner.dialect);
@@ -102,34 +102,30 @@ impl RowReader {
     }
 
     // Appends the row that has these fields, or the words of their line, if it has any.
-    fn give_row(
-        &mut self,
-        fields: ByteRecord,
-        rows: &mut Vec<StringRecord>,
-    ) -> Result<(), RowsFault>
+    fn give_row(&mut self, fields: &RowBuffer, rows: &mut Vec<TextRow>) -> Result<(), RowsFault>
         ensures left { self.new.is_left_out ≡ self.old.is_left_out }
         ensures scanner { self.new.scanner ≡ self.old.scanner }
         ensures rows { (above : List (List (List ℕ))) → Counts above self.old.rows self.old.columns
-            → OnOk result (map fields_of rows.new.items ≡ with_row (map fields_of rows.old.items) (row_made self.old.scanner.dialect above (fields_of fields))) }
+            → OnOk result (map fields_of rows.new.items ≡ with_row (map fields_of rows.old.items) (row_made self.old.scanner.dialect above (fields_of fields.now))) }
         ensures kept { OnErr result (rows.new.items ≡ rows.old.items) }
         ensures counted { (above : List (List (List ℕ))) → Counts above self.old.rows self.old.columns
-            → OnOk result (Counts (with_row above (row_made self.old.scanner.dialect above (fields_of fields))) self.new.rows self.new.columns) }
+            → OnOk result (Counts (with_row above (row_made self.old.scanner.dialect above (fields_of fields.now))) self.new.rows self.new.columns) }
         ensures fault { (above : List (List (List ℕ))) → Counts above self.old.rows self.old.columns
-            → Tells (fault_below self.old.scanner.dialect above (row_made self.old.scanner.dialect above (fields_of fields))) result }
+            → Tells (fault_below self.old.scanner.dialect above (row_made self.old.scanner.dialect above (fields_of fields.now))) result }
     {
         let dialect = self.scanner.dialect;
         if !dialect.rows.fields.are_words() {
             return self.give(fields, rows);
         }
         let alloc = *rows.allocator();
-        match words_in(alloc, self.columns, &fields)? {
-            Some(words) => self.give(words, rows),
+        match words_in(alloc, self.columns, fields)? {
+            Some(words) => self.give(&words, rows),
             None => Ok(()),
         }
     }
 
     // Reads a byte of a line that isn't left out, or of its end.
-    fn scan(&mut self, byte: u8, rows: &mut Vec<StringRecord>) -> Result<(), RowsFault>
+    fn scan(&mut self, byte: u8, rows: &mut Vec<TextRow>) -> Result<(), RowsFault>
         ensures left { self.new.is_left_out ≡ self.old.is_left_out }
         ensures read { (dialect : Dialect) (scan : Scan) → Holds dialect scan self.old → OnOk result (Holds dialect (scan_after dialect scan byte) self.new) }
         ensures rows { (dialect : Dialect) (scan : Scan) → Holds dialect scan self.old
@@ -138,7 +134,11 @@ impl RowReader {
         ensures fault { (dialect : Dialect) (scan : Scan) → Holds dialect scan self.old → Foretells (scan_after dialect scan byte).fault result }
     {
         match self.scanner.read(byte)? {
-            Some(fields) => self.give_row(fields, rows),
+            Some(fields) => {
+                let given = self.give_row(&fields, rows);
+                self.scanner.reuse(fields);
+                given
+            }
             None => Ok(()),
         }
     }
@@ -151,7 +151,7 @@ impl RowReader {
     }
 
     // Reads a byte.
-    fn read_byte(&mut self, byte: u8, rows: &mut Vec<StringRecord>) -> Result<(), RowsFault>
+    fn read_byte(&mut self, byte: u8, rows: &mut Vec<TextRow>) -> Result<(), RowsFault>
         ensures read { (dialect : Dialect) (before : List ℕ) → HasRead dialect before self.old → OnOk result (HasRead dialect (before ++ byte ∷ []) self.new) }
         ensures rows { (dialect : Dialect) (before : List ℕ) → HasRead dialect before self.old
             → OnOk result (AppendsRest (ended_rows dialect before) (ended_rows dialect (before ++ byte ∷ [])) (map fields_of rows.old.items) (map fields_of rows.new.items)) }
@@ -190,7 +190,7 @@ impl RowReader {
 
     /// Reads the next bytes, and appends the rows that end among them; after a fault, those above
     /// the first bad row.
-    pub fn read(self, bytes: &[u8], rows: &mut Vec<StringRecord>) -> Result<RowReader, RowsFault>
+    pub fn read(self, bytes: &[u8], rows: &mut Vec<TextRow>) -> Result<RowReader, RowsFault>
         ensures read { (dialect : Dialect) (before : List ℕ) → HasRead dialect before self → IfOk result (λ reader. HasRead dialect (before ++ bytes.now) reader) }
         ensures rows { (dialect : Dialect) (before : List ℕ) → HasRead dialect before self
             → OnOk result (AppendsRest (ended_rows dialect before) (ended_rows dialect (before ++ bytes.now)) (map fields_of rows.old.items) (map fields_of rows.new.items)) }
@@ -216,7 +216,7 @@ impl RowReader {
 
     /// Ends the reading when no byte is left, and appends the row that ends with the input, unless
     /// it is bad.
-    pub fn finish(self, rows: &mut Vec<StringRecord>) -> Result<(), RowsFault>
+    pub fn finish(self, rows: &mut Vec<TextRow>) -> Result<(), RowsFault>
         ensures rows { (dialect : Dialect) (bytes : List ℕ) → HasRead dialect bytes self
             → OnOk result (AppendsRest (ended_rows dialect bytes) (rows_of dialect bytes) (map fields_of rows.old.items) (map fields_of rows.new.items)) }
         ensures fault { (dialect : Dialect) (bytes : List ℕ) → HasRead dialect bytes self → Tells (rows_fault dialect bytes) result }
@@ -228,7 +228,7 @@ impl RowReader {
     {
         let mut reader = self;
         match reader.scanner.end()? {
-            Some(fields) => reader.give_row(fields, rows),
+            Some(fields) => reader.give_row(&fields, rows),
             None => Ok(()),
         }
     }

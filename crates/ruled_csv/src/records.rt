@@ -8,7 +8,7 @@ ghost use Rattle.ruled_csv.specs.Rows.{rows_of};
 use crate::dialect::Dialect;
 use crate::fault::RowsFault;
 use crate::reader::RowReader;
-use csv::StringRecord;
+use ruled_row::TextRow;
 use std::alloc::Global;
 
 /// The rows of separated values, each a record of its fields.
@@ -19,11 +19,7 @@ use std::alloc::Global;
 /// another number of fields than row 0, unless rows may be ragged, one that isn't UTF-8, or one in
 /// which a quote isn't closed or is followed by text. The only other fault is out of memory, which
 /// no bytes need.
-pub fn read_rows(
-    alloc: Global,
-    dialect: Dialect,
-    bytes: &[u8],
-) -> Result<Vec<StringRecord>, RowsFault>
+pub fn read_rows(alloc: Global, dialect: Dialect, bytes: &[u8]) -> Result<Vec<TextRow>, RowsFault>
     ensures rows { IfOk result (λ rows. map fields_of rows.items ≡ rows_of dialect bytes.now) }
     ensures fault { Tells (rows_fault dialect bytes.now) result }
     ensures nothing { bytes.now ≡ [] → IsOk result }

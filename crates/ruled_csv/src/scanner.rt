@@ -14,9 +14,10 @@ ghost use Rattle.ruled_csv.specs.Quotes.{is_closing, is_plain, is_quoted, config
 use crate::dialect::Dialect;
 use crate::fault::RowsFault;
 use crate::lines::Lines;
-use csv::ByteRecord;
 use memchr::{memchr_iter, memchr3};
+use ruled_row::RowBuffer;
 use std::alloc::{AllocError, Global};
+use std::mem;
 
 /// What comes before a byte.
 #[derive(Clone, Copy)]
@@ -196,7 +197,7 @@ impl Standing {
 pub(crate) struct Scanner {
     pub(crate) dialect: Dialect,
     standing: Standing,
-    row: ByteRecord,
+    row: RowBuffer,
     field: Vec<u8>,
     lines: Lines,
     // The line of the quote opened last.
@@ -214,7 +215,7 @@ impl Scanner {
         Scanner {
             dialect,
             standing: Standing::Row,
-            row: ByteRecord::new(alloc),
+            row: RowBuffer::new(alloc),
             field: Vec::new(alloc),
             lines: Lines::new(),
             opened: 1,
@@ -254,16 +255,26 @@ impl Scanner {
         Ok(())
     }
 
-    // Ends the current row, and begins another one.
-    fn end_row(&mut self) -> Result<ByteRecord, AllocError>
+    // Ends the current row, begins another one, and gives the buffer of the first away.
+    fn end_row(&mut self) -> Result<RowBuffer, AllocError>
         ensures row { IfOk result (λ row. fields_of row ≡ (hand_of self.old).fields ++ ((hand_of self.old).field ∷ [])) }
         ensures hand { OnOk result (hand_of self.new ≡ record (hand_of self.old) { fields = []; field = [] }) }
         ensures dialect { self.new.dialect ≡ self.old.dialect }
     {
         self.end_field()?;
-        let row = self.row.clone()?;
-        self.row.clear();
-        Ok(row)
+        let empty = RowBuffer::new(*self.field.allocator());
+        Ok(mem::replace(&mut self.row, empty))
+    }
+
+    /// Takes the buffer of a row that ended for the next one.
+    pub(crate) fn reuse(&mut self, mut buffer: RowBuffer)
+        ensures hand { hand_of self.new ≡ hand_of self.old }
+        ensures dialect { self.new.dialect ≡ self.old.dialect }
+    {
+        if self.row.len() == 0 {
+            buffer.clear();
+            self.row = buffer;
+        }
     }
 
     // Adds these bytes to the current field, and ends it.
@@ -334,7 +345,7 @@ impl Scanner {
     }
 
     /// Reads a byte, and returns the row that ends with it.
-    pub(crate) fn read(&mut self, byte: u8) -> Result<Option<ByteRecord>, RowsFault>
+    pub(crate) fn read(&mut self, byte: u8) -> Result<Option<RowBuffer>, RowsFault>
         ensures row { IfOk result (λ found. option_map fields_of found ≡ row_ended self.old.dialect (hand_of self.old) byte) }
         ensures hand { OnOk result (hand_of self.new ≡ hand_after self.old.dialect (hand_of self.old) byte) }
         ensures fault { Tells (behind_fault self.old.dialect (hand_of self.old) byte) result }
@@ -367,7 +378,7 @@ impl Scanner {
     }
 
     /// The row that ends with the input.
-    pub(crate) fn end(&mut self) -> Result<Option<ByteRecord>, RowsFault>
+    pub(crate) fn end(&mut self) -> Result<Option<RowBuffer>, RowsFault>
         ensures row { IfOk result (λ found. option_map fields_of found ≡ last_row (hand_of self.old)) }
         ensures fault { Tells (open_fault (hand_of self.old)) result }
         ensures nothing { hand_of self.old ≡ empty_hand → result ≡ Ok None }

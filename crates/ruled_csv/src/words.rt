@@ -6,7 +6,7 @@ ghost use Rattle.csv.specs.Records.{fields_of};
 ghost use Rattle.ruled_csv.specs.Inside.{line_of};
 ghost use Rattle.ruled_csv.specs.Words as spec;
 
-use csv::ByteRecord;
+use ruled_row::RowBuffer;
 use std::alloc::{AllocError, Global};
 
 // Where the first white space is.
@@ -30,10 +30,10 @@ fn word_len(count: usize, text: &[u8]) -> usize
 
 // The words of a text that begins with one, at most so many.
 #[tactic(auto, using(crate::proofs::CutWords::words_enough, crate::proofs::CutWords::words_all))]
-fn words_of(alloc: Global, most: usize, text: &[u8]) -> Result<ByteRecord, AllocError>
+fn words_of(alloc: Global, most: usize, text: &[u8]) -> Result<RowBuffer, AllocError>
     ensures { IfOk result (λ row. fields_of row ≡ spec.words_of most text.now) }
 {
-    let mut row = ByteRecord::new(alloc);
+    let mut row = RowBuffer::new(alloc);
     let (mut rest, mut count) = (text, most);
     while count > 0 {
         if rest.is_empty() {
@@ -49,7 +49,7 @@ fn words_of(alloc: Global, most: usize, text: &[u8]) -> Result<ByteRecord, Alloc
 
 // The line that these fields are the parts of, between tabs.
 #[tactic(auto, using(crate::proofs::CutWords::line_all))]
-fn line_of(alloc: Global, fields: &ByteRecord) -> Result<Vec<u8>, AllocError>
+fn line_of(alloc: Global, fields: &RowBuffer) -> Result<Vec<u8>, AllocError>
     ensures { IfOk result (λ line. line.items ≡ line_of (fields_of fields.now)) }
 {
     let mut line = Vec::new(alloc);
@@ -70,8 +70,8 @@ fn line_of(alloc: Global, fields: &ByteRecord) -> Result<Vec<u8>, AllocError>
 pub(crate) fn words_in(
     alloc: Global,
     columns: Option<usize>,
-    fields: &ByteRecord,
-) -> Result<Option<ByteRecord>, AllocError>
+    fields: &RowBuffer,
+) -> Result<Option<RowBuffer>, AllocError>
     ensures words { IfOk result (λ words. option_map fields_of words ≡ spec.words_in columns (line_of (fields_of fields.now))) }
 {
     let line = line_of(alloc, fields)?;

@@ -1,7 +1,7 @@
 -- What reading the record of a row gives, its texts give.
 use Rattle.std.proofs.Common.{◌≡◌, ◌∙◌, ◌++◌, ◌∷◌, ◌+◌, ◌<◌, ◌≤◌, ℕ, List, [], length, map, take, get_or, Some, Option, Result, Ok, Err, inl, inr, refl, sym, ap, ap₂, subst, subst₂, arith}
 use Rattle.std.specs.Option.{option_and_then}
-use Rattle.std.specs.Prelude.{slice_index_or}
+use Rattle.std.specs.Prelude.{◌≢◌, slice_index_or}
 use Rattle.std.specs.Result.{IsErrAnd}
 use Rattle.std.proofs.lemmas.Bool.Decides.{nat_tests}
 use Rattle.std.proofs.lemmas.List.{get_or-map, length-map, map_more}
@@ -57,13 +57,18 @@ module _ (file : List ℕ) (definition : Definition) (row : Stored) (n m : ℕ) 
 
   -- a text that isn't UTF-8
   pub gives_wrong : {U V : Type 0} (x : U) (record_bytes : List ℕ) (texts : List (List ℕ)) (old new : List (List (List ℕ))) (result : Result V TableFault) (found : TableFault) (at : ℕ)
-      → IsErrAnd result (λ fault. fault ≡ found) → found ≡ Encoding at → Gives (record_of file row) n m [] record_bytes (Ok x) → texts ≡ texts_in definition row.key (values_of file record_bytes)
+      → IsErrAnd result (λ fault. fault ≡ found) → (found ≢ Memory → found ≡ Encoding at) → Gives (record_of file row) n m [] record_bytes (Ok x) → texts ≡ texts_in definition row.key (values_of file record_bytes)
       → LacksTexts texts found → GivesRow file definition row n m old new result
   gives_wrong x record_bytes texts old new (Ok y) found at told place read is lacks = absurd told
-  gives_wrong {U} {V} x record_bytes texts old new (Err fault) found at told place read is lacks =
+  gives_wrong {U} {V} x record_bytes texts old new (Err fault) Memory at told place read is lacks =
+      subst (λ (f : TableFault). GivesRow {U = V} file definition row n m old new (Err f)) (sym told) tt
+  gives_wrong {U} {V} x record_bytes texts old new (Err fault) Damage at told place read is lacks = absurd lacks
+  gives_wrong {U} {V} x record_bytes texts old new (Err fault) Default at told place read is lacks = absurd lacks
+  gives_wrong {U} {V} x record_bytes texts old new (Err fault) (Encoding n) at told place read is lacks =
       let same : record_bytes ≡ read.0 = read.2 in
-      let wrong = subst₂ (λ (t : List (List ℕ)) (f : TableFault). LacksTexts t f) is place lacks in
-      subst (λ (f : TableFault). GivesRow {U = V} file definition row n m old new (Err f)) (sym (told ∙ place)) (record_bytes, read.1 ∙ ap Some (sym same), wrong)
+      let here = place (λ e. cc e) in
+      let wrong = subst₂ (λ (t : List (List ℕ)) (f : TableFault). LacksTexts t f) is here lacks in
+      subst (λ (f : TableFault). GivesRow {U = V} file definition row n m old new (Err f)) (sym (told ∙ here)) (record_bytes, read.1 ∙ ap Some (sym same), wrong)
 
   -- a record that isn't read
   pub gives_unread : (U : Type 0) {V : Type 0} (before after : List ℕ) (old new : List (List (List ℕ))) (result : Result V TableFault) (found : TableFault) → IsErrAnd result (λ fault. fault ≡ found)

@@ -11,7 +11,7 @@ use crate::fault::{DatabaseFault, TableFault};
 use crate::file::File;
 use crate::table::{names_of, push_rows};
 use crate::value::row_of;
-use csv::{ByteRecord, StringRecord};
+use ruled_row::{RowBuffer, TextRow};
 use sqlite_items::Items;
 use sqlite_sql::numeral::int_at_front;
 use std::alloc::{AllocError, Global};
@@ -41,7 +41,7 @@ const SCHEMA: &[u8] =
     b"create table sqlite_schema(type text, name text, tbl_name text, rootpage integer, sql text)";
 
 // The text at a place of an entry.
-fn text_at(row: &StringRecord, place: usize) -> &str
+fn text_at(row: &TextRow, place: usize) -> &str
     ensures { result.now ≡ spec.text_at (fields_of row.now) place }
 {
     row.get(place).unwrap_or("")
@@ -70,7 +70,7 @@ fn kind_of(word: &str, root: u32) -> Option<ItemKind>
 
 #[tactic(auto, unfolding(crate::specs::Listings::entry_in))]
 // The table or the view that an entry of the schema lists.
-fn listed_in(row: &StringRecord) -> Option<Listed<'_>>
+fn listed_in(row: &TextRow) -> Option<Listed<'_>>
     ensures { option_map entry_of result ≡ spec.entry_in (fields_of row.now) }
 {
     let root = root_of(text_at(row, 3));
@@ -85,7 +85,7 @@ fn listed_in(row: &StringRecord) -> Option<Listed<'_>>
 
 #[tactic(auto, unfolding(crate::specs::Listings::named_in))]
 // The entry, if it has this name, in any case.
-fn named_in<'r>(row: &'r StringRecord, name: &str) -> Option<Listed<'r>>
+fn named_in<'r>(row: &'r TextRow, name: &str) -> Option<Listed<'r>>
     ensures { option_map entry_of result ≡ spec.named_in name.now (fields_of row.now) }
 {
     let listed = listed_in(row)?;
@@ -97,7 +97,7 @@ fn named_in<'r>(row: &'r StringRecord, name: &str) -> Option<Listed<'r>>
 }
 
 // The first table or view of this name.
-fn find<'r>(mut schema: &'r [StringRecord], name: &str) -> Option<Listed<'r>>
+fn find<'r>(mut schema: &'r [TextRow], name: &str) -> Option<Listed<'r>>
     ensures { option_map entry_of result ≡ spec.find name.now (map fields_of schema.entry.now) }
 {
     while let [row, rest @ ..] = schema {
@@ -111,7 +111,7 @@ fn find<'r>(mut schema: &'r [StringRecord], name: &str) -> Option<Listed<'r>>
 
 #[tactic(auto, unfolding(crate::specs::Listings::schema_definition))]
 // The entries of a schema: the type, the name, the table, the page and the statement of each.
-fn schema_rows(alloc: Global, file: File<'_>) -> Result<Vec<StringRecord>, DatabaseFault>
+fn schema_rows(alloc: Global, file: File<'_>) -> Result<Vec<TextRow>, DatabaseFault>
     ensures rows { IfOk result (λ rows. AreListed file.entry.bytes.now (map fields_of rows.items)) }
     ensures fault { IfErr result (LacksSchema file.entry.bytes.now) }
 {
@@ -153,7 +153,7 @@ fn rows_of(
     file: File<'_>,
     root: u32,
     definition: &Definition,
-) -> Result<Vec<StringRecord>, TableFault>
+) -> Result<Vec<TextRow>, TableFault>
     ensures rows { IfOk result (λ rows. spec.AreNamedRows file.entry.bytes.now root definition.now (map fields_of rows.items)) }
     ensures fault { IfErr result (spec.LacksRows file.entry.bytes.now root definition.now) }
 {
@@ -185,7 +185,7 @@ fn entry_rows(
     file: File<'_>,
     null: &str,
     listed: Listed<'_>,
-) -> Result<Vec<StringRecord>, DatabaseFault>
+) -> Result<Vec<TextRow>, DatabaseFault>
     ensures rows { IfOk result (λ rows. AreEntryRows file.entry.bytes.now null.now (entry_of listed.entry) (map fields_of rows.items)) }
     ensures fault { IfErr result (LacksEntry file.entry.bytes.now null.now (entry_of listed.entry)) }
 {
@@ -203,7 +203,7 @@ pub fn table_rows(
     bytes: &[u8],
     name: &str,
     null: &str,
-) -> Result<Vec<StringRecord>, DatabaseFault>
+) -> Result<Vec<TextRow>, DatabaseFault>
     ensures rows { IfOk result (λ rows. AreTable bytes.now name.now null.now (map fields_of rows.items)) }
     ensures fault { IfErr result (LacksTable bytes.now name.now null.now) }
 {
@@ -254,23 +254,23 @@ fn kind_name(kind: ItemKind) -> &'static str
 }
 
 // What is shown of an entry, in this row.
-fn fields_in(alloc: Global, row: usize, listed: Listed<'_>) -> Result<StringRecord, TableFault>
+fn fields_in(alloc: Global, row: usize, listed: Listed<'_>) -> Result<TextRow, TableFault>
     ensures fields { IfOk result (λ fields. fields_of fields ≡ spec.fields_of_entry (entry_of listed.entry)) }
     ensures fault { IfErr result (LacksTexts (spec.fields_of_entry (entry_of listed.entry))) }
 {
-    let mut texts = ByteRecord::new(alloc);
+    let mut texts = RowBuffer::new(alloc);
     texts.push_field(listed.name.as_bytes())?;
     texts.push_field(kind_name(listed.kind).as_bytes())?;
     let columns = columns_of(alloc, listed)?;
     texts.push_field(&columns)?;
-    row_of(texts, row)
+    row_of(&texts, row)
 }
 
 // Appends what is shown of these entries.
 fn push_listing(
     alloc: Global,
-    mut schema: &[StringRecord],
-    rows: &mut Vec<StringRecord>,
+    mut schema: &[TextRow],
+    rows: &mut Vec<TextRow>,
 ) -> Result<(), TableFault>
     ensures rows { IfOk result (λ x. map fields_of rows.new.items ≡ spec.with_entries (map fields_of rows.old.items) (map fields_of schema.entry.now)) }
     ensures fault { IfErr result (LacksEntries (map fields_of schema.entry.now)) }
@@ -286,11 +286,11 @@ fn push_listing(
 }
 
 // The list of these entries.
-fn listing_of(alloc: Global, schema: &[StringRecord]) -> Result<Vec<StringRecord>, TableFault>
+fn listing_of(alloc: Global, schema: &[TextRow]) -> Result<Vec<TextRow>, TableFault>
     ensures rows { IfOk result (λ rows. map fields_of rows.items ≡ spec.listing (map fields_of schema.now)) }
     ensures fault { IfErr result (LacksEntries (map fields_of schema.now)) }
 {
-    let header = StringRecord::from_fields(alloc, &["name", "kind", "columns"])?;
+    let header = TextRow::from_fields(alloc, &["name", "kind", "columns"])?;
     let mut rows = Vec::new(alloc);
     rows.push(header)?;
     push_listing(alloc, schema, &mut rows)?;
@@ -299,7 +299,7 @@ fn listing_of(alloc: Global, schema: &[StringRecord]) -> Result<Vec<StringRecord
 
 /// The tables and views of the database that the bytes of its file hold: the name, the kind and the columns of
 /// each, below a row of these words.
-pub fn list_rows(alloc: Global, bytes: &[u8]) -> Result<Vec<StringRecord>, DatabaseFault>
+pub fn list_rows(alloc: Global, bytes: &[u8]) -> Result<Vec<TextRow>, DatabaseFault>
     ensures rows { IfOk result (λ rows. IsListing bytes.now (map fields_of rows.items)) }
     ensures fault { IfErr result (LacksListing bytes.now) }
 {

@@ -14,7 +14,7 @@ use crate::file::File;
 use crate::overflow::Overflow;
 use crate::tree::{StoredRow, stored_rows};
 use crate::value::{push_value, row_of};
-use csv::{ByteRecord, StringRecord};
+use ruled_row::{RowBuffer, TextRow};
 use sqlite_format::cell::toggle_sign;
 use sqlite_record::fields::decode_into;
 use sqlite_value::row::Row;
@@ -76,7 +76,7 @@ fn read_texts(
     definition: &Definition,
     key: u64,
     values: &Row,
-    texts: &mut ByteRecord,
+    texts: &mut RowBuffer,
 ) -> Result<(), AllocError>
     ensures { OnOk result (fields_of texts.new ≡ texts_in definition.now key values.now) }
 {
@@ -95,7 +95,7 @@ struct RowReader<'a> {
     overflow: Overflow<'a>,
     record: Vec<u8>,
     values: Row,
-    texts: ByteRecord,
+    texts: RowBuffer,
 }
 
 impl<'a> RowReader<'a> {
@@ -105,7 +105,7 @@ impl<'a> RowReader<'a> {
         alloc: Global,
         definition: &Definition,
         row: &StoredRow<'_>,
-        rows: &mut Vec<StringRecord>,
+        rows: &mut Vec<TextRow>,
     ) -> Result<(), TableFault>
         ensures file { self.new.overflow.file ≡ self.old.overflow.file }
         ensures rows { GivesRow self.old.overflow.file.bytes.now definition.now (stored_of row.now) self.old.overflow.left self.new.overflow.left
@@ -121,8 +121,7 @@ impl<'a> RowReader<'a> {
             return Err(TableFault::Default);
         }
         read_texts(alloc, definition, row.key, &self.values, &mut self.texts)?;
-        let texts = self.texts.clone()?;
-        let fields = row_of(texts, rows.len())?;
+        let fields = row_of(&self.texts, rows.len())?;
         rows.push(fields)?;
         Ok(())
     }
@@ -134,7 +133,7 @@ pub(crate) fn push_rows(
     file: File<'_>,
     root: u32,
     definition: &Definition,
-    rows: &mut Vec<StringRecord>,
+    rows: &mut Vec<TextRow>,
 ) -> Result<(), TableFault>
     ensures { AddsRows file.entry.bytes.now root definition.now (map fields_of rows.old.items) (map fields_of rows.new.items) result }
 {
@@ -143,7 +142,7 @@ pub(crate) fn push_rows(
         overflow: Overflow::of(file),
         record: Vec::new(alloc),
         values: Row::new(alloc),
-        texts: ByteRecord::new(alloc),
+        texts: RowBuffer::new(alloc),
     };
     for row in &stored {
         reader.push_row(alloc, definition, row, rows)?;
@@ -152,13 +151,13 @@ pub(crate) fn push_rows(
 }
 
 /// The names of columns.
-pub(crate) fn names_of(alloc: Global, columns: &[Column]) -> Result<StringRecord, TableFault>
+pub(crate) fn names_of(alloc: Global, columns: &[Column]) -> Result<TextRow, TableFault>
     ensures fields { IfOk result (λ fields. fields_of fields ≡ names_in columns.now) }
     ensures fault { IfErr result (LacksTexts (names_in columns.now)) }
 {
-    let mut names = ByteRecord::new(alloc);
+    let mut names = RowBuffer::new(alloc);
     for column in columns {
         names.push_field(column.name.as_slice())?;
     }
-    row_of(names, 0)
+    row_of(&names, 0)
 }

@@ -1,6 +1,6 @@
 //! Values as texts.
 
-ghost use Rattle.std.specs.Prelude.{◌≡◌, ◌++◌, ◌∷◌, [], codes, string_bytes, IfErr, IfOk, OnOk};
+ghost use Rattle.std.specs.Prelude.{◌≡◌, ◌≢◌, ◌++◌, ◌∷◌, [], codes, string_bytes, IfErr, IfOk, OnOk};
 ghost use Rattle.hex.specs.Hex.{encode_lower};
 ghost use Rattle.csv.specs.Records.{fields_of, partial_of};
 ghost use Rattle.sqlite_value.specs.Value.{owned};
@@ -9,8 +9,8 @@ ghost use Rattle.ruled_database.specs.declared.fault.TableFault.{TableFault};
 
 use crate::fault::TableFault;
 use crate::float::float_text;
-use csv::{ByteRecord, StringRecord};
 use itoa::Buffer;
+use ruled_row::{RowBuffer, TextRow};
 use sqlite_value::value::ValueRef;
 use std::alloc::{AllocError, Global};
 
@@ -29,7 +29,7 @@ fn literal_of(alloc: Global, bytes: &[u8]) -> Result<String, AllocError>
 /// a blob as `x'00ff'`.
 pub fn push_value(
     alloc: Global,
-    texts: &mut ByteRecord,
+    texts: &mut RowBuffer,
     null: &[u8],
     value: ValueRef<'_>,
 ) -> Result<(), AllocError>
@@ -52,13 +52,13 @@ pub fn push_value(
 }
 
 /// The texts as a row of this number. One that isn't UTF-8 is a fault.
-pub(crate) fn row_of(texts: ByteRecord, row: usize) -> Result<StringRecord, TableFault>
-    ensures fields { IfOk result (λ fields. fields_of fields ≡ fields_of texts) }
-    ensures place { IfErr result (λ fault. fault ≡ TableFault.Encoding row) }
-    ensures fault { IfErr result (LacksTexts (fields_of texts)) }
+pub(crate) fn row_of(texts: &RowBuffer, row: usize) -> Result<TextRow, TableFault>
+    ensures fields { IfOk result (λ fields. fields_of fields ≡ fields_of texts.now) }
+    ensures place { IfErr result (λ fault. fault ≢ TableFault.Memory → fault ≡ TableFault.Encoding row) }
+    ensures fault { IfErr result (LacksTexts (fields_of texts.now)) }
 {
-    match StringRecord::from_byte_record(texts) {
-        Ok(fields) => Ok(fields),
-        Err(_) => Err(TableFault::Encoding(row)),
+    match texts.to_row()? {
+        Some(fields) => Ok(fields),
+        None => Err(TableFault::Encoding(row)),
     }
 }

@@ -27,7 +27,7 @@ use crate::output::Output;
 use crate::pieces::Pieces;
 use crate::program::Remarks;
 use crate::request::Request;
-use csv::StringRecord;
+use ruled_row::TextRow;
 use ruled_table::{Blocks, Layout, Options, TableRows, TextColors, chosen_rows, padded_rows};
 use std::alloc::Global;
 use std::io::{Read, Write};
@@ -38,7 +38,7 @@ fn read_rows<R: Read + Drop>(
     alloc: Global,
     request: &Request,
     pieces: &mut Pieces<R>,
-) -> Result<Vec<StringRecord>, RunFault>
+) -> Result<Vec<TextRow>, RunFault>
     ensures rows { IfOk result (λ rows. IfSome (R.remaining pieces.old.input) (λ bytes. AreJoined request.now bytes (map fields_of rows.items))) }
     ensures cause { IfErr result (λ fault. IfSome (R.remaining pieces.old.input) (λ bytes. LacksInputs request.now bytes fault)) }
     ensures unwritten { IfErr result (λ fault. write_part fault ≡ None) }
@@ -56,7 +56,7 @@ fn read_rows<R: Read + Drop>(
 fn write_lines<W: Write + Drop>(
     alloc: Global,
     mut table: TableRows<'_>,
-    rows: &[StringRecord],
+    rows: &[TextRow],
     out: &mut Output<W>,
 ) -> Result<(), RunFault>
     ensures lines { (options : Options) (plan : Plan) → HasAppended options plan [] table.entry
@@ -87,7 +87,7 @@ fn fault_in_memory(fault: RunFault) -> RunFault
 fn write_whole<W: Write + Drop>(
     alloc: Global,
     table: TableRows<'_>,
-    rows: &[StringRecord],
+    rows: &[TextRow],
     out: &mut Output<W>,
 ) -> Result<(), RunFault>
     ensures draws { (options : Options) (plan : Plan) → HasAppended options plan [] table.entry
@@ -105,7 +105,7 @@ fn show_table<W: Write + Drop>(
     alloc: Global,
     options: &Options,
     layout: &Layout,
-    rows: &[StringRecord],
+    rows: &[TextRow],
     out: &mut Output<W>,
 ) -> Result<(), RunFault>
     ensures draws { plan_in layout.now ≡ layout_of options.now (map fields_of rows.now)
@@ -121,7 +121,7 @@ fn show_table<W: Write + Drop>(
 // be counted have no room there for a block.
 fn write_block<W: Write + Drop>(
     blocks: &Blocks<'_>,
-    fields: &StringRecord,
+    fields: &TextRow,
     buf: &mut String,
     out: &mut Output<W>,
 ) -> Result<(), RunFault>
@@ -140,7 +140,7 @@ fn write_block<W: Write + Drop>(
 fn write_blocks<W: Write + Drop>(
     alloc: Global,
     blocks: &Blocks<'_>,
-    records: &[StringRecord],
+    records: &[TextRow],
     out: &mut Output<W>,
 ) -> Result<(), RunFault>
     ensures draws { (options : Options) (rows : List (List Text)) → HasNames options rows blocks.now
@@ -156,7 +156,7 @@ fn write_blocks<W: Write + Drop>(
 }
 
 // The records below the row of their names.
-fn below_names(rows: &[StringRecord]) -> &[StringRecord]
+fn below_names(rows: &[TextRow]) -> &[TextRow]
     ensures { result.now ≡ drop 1 rows.now }
 {
     match rows {
@@ -169,7 +169,7 @@ fn below_names(rows: &[StringRecord]) -> &[StringRecord]
 fn show_blocks<W: Write + Drop>(
     alloc: Global,
     options: &Options,
-    rows: &[StringRecord],
+    rows: &[TextRow],
     out: &mut Output<W>,
 ) -> Result<(), RunFault>
     ensures draws { column_fault options.now.columns.items (map fields_of rows.now) ≡ None
@@ -185,7 +185,7 @@ fn show_blocks<W: Write + Drop>(
 fn show_measured<W: Write + Drop>(
     alloc: Global,
     options: &Options,
-    mut rows: Vec<StringRecord>,
+    mut rows: Vec<TextRow>,
     out: &mut Output<W>,
 ) -> Result<Option<usize>, RunFault>
     ensures draws { column_fault options.now.columns.items (map fields_of rows.items) ≡ None → is_always options.now.vertical ≡ false
@@ -209,7 +209,7 @@ fn show_measured<W: Write + Drop>(
 fn show_chosen<W: Write + Drop>(
     alloc: Global,
     options: &Options,
-    rows: Vec<StringRecord>,
+    rows: Vec<TextRow>,
     out: &mut Output<W>,
 ) -> Result<Option<usize>, RunFault>
     ensures draws { column_fault options.now.columns.items (map fields_of rows.items) ≡ None
@@ -228,7 +228,7 @@ fn show_chosen<W: Write + Drop>(
 fn show_rows<W: Write + Drop>(
     alloc: Global,
     options: &Options,
-    rows: Vec<StringRecord>,
+    rows: Vec<TextRow>,
     out: &mut Output<W>,
 ) -> Result<Option<usize>, RunFault>
     ensures draws { Draws (table_text options.now (map fields_of rows.items)) (table_fault options.now (map fields_of rows.items)) (W.contents out.old.writer) (W.contents out.new.writer) result }

@@ -11,18 +11,14 @@ use crate::fault::InputFault;
 use crate::formats::Known;
 use crate::input::rows_in;
 use crate::request::{Query, Selection, Source};
-use csv::StringRecord;
 use ruled_database::{list_rows, table_rows};
+use ruled_row::TextRow;
 use ruled_sql::{query_rows, query_table};
 use ruled_table::{named, padded};
 use std::alloc::{AllocError, Global};
 
 // The table of these rows that a query reads.
-fn table_of(
-    alloc: Global,
-    query: &Query,
-    rows: Vec<StringRecord>,
-) -> Result<Vec<StringRecord>, AllocError>
+fn table_of(alloc: Global, query: &Query, rows: Vec<TextRow>) -> Result<Vec<TextRow>, AllocError>
     ensures { IfOk result (λ table. map fields_of table.items ≡ table_of query.now (map fields_of rows.items)) }
 {
     let rows = named(alloc, &query.names, rows)?;
@@ -38,7 +34,7 @@ fn queried_rows(
     query: &Query,
     known: Known,
     bytes: &[u8],
-) -> Result<Vec<StringRecord>, InputFault>
+) -> Result<Vec<TextRow>, InputFault>
     ensures rows { IfOk result (λ rows. AreAnswer (Some known) query.now bytes.now (map fields_of rows.items)) }
     ensures cause { known_in query.now.known bytes.now ≡ Some known → IfErr result (LacksSelected (Some (Select query.now)) bytes.now) }
 {
@@ -49,7 +45,7 @@ fn queried_rows(
 }
 
 // The rows that a query answers.
-fn answer_rows(alloc: Global, query: &Query, bytes: &[u8]) -> Result<Vec<StringRecord>, InputFault>
+fn answer_rows(alloc: Global, query: &Query, bytes: &[u8]) -> Result<Vec<TextRow>, InputFault>
     ensures rows { IfOk result (λ rows. AreAnswer (known_in query.now.known bytes.now) query.now bytes.now (map fields_of rows.items)) }
     ensures cause { IfErr result (LacksSelected (Some (Select query.now)) bytes.now) }
 {
@@ -67,7 +63,7 @@ fn selected_rows(
     alloc: Global,
     selection: Option<&Selection>,
     bytes: &[u8],
-) -> Result<Vec<StringRecord>, InputFault>
+) -> Result<Vec<TextRow>, InputFault>
     ensures rows { IfOk result (λ rows. AreSelected (option_map (λ it. it.now) selection.entry) bytes.now (map fields_of rows.items)) }
     ensures cause { IfErr result (LacksSelected (option_map (λ it. it.now) selection.entry) bytes.now) }
 {
@@ -85,7 +81,7 @@ pub(crate) fn asked_rows(
     alloc: Global,
     source: &Source,
     bytes: &[u8],
-) -> Result<Vec<StringRecord>, InputFault>
+) -> Result<Vec<TextRow>, InputFault>
     ensures rows { IfOk result (λ rows. AreAsked source.now bytes.now (map fields_of rows.items)) }
     ensures cause { IfErr result (LacksRowsAs None true source.now bytes.now) }
 {

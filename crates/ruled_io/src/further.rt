@@ -11,13 +11,13 @@ ghost use Rattle.ruled_io.specs.Steps.{beneath};
 use crate::fault::{FurtherFault, InputFault};
 use crate::input::rows_in;
 use crate::request::FurtherInput;
-use csv::StringRecord;
 use ruled_json::MemberRules;
+use ruled_row::TextRow;
 use ruled_table::Options;
 use std::alloc::{AllocError, Global};
 
 // Whether two rows have the same fields.
-fn are_alike(row: &StringRecord, other: &StringRecord) -> bool
+fn are_alike(row: &TextRow, other: &TextRow) -> bool
     ensures { result ≡ pointwise bytes_eq (fields_of row.now) (fields_of other.now) }
 {
     if row.len() != other.len() {
@@ -35,8 +35,8 @@ fn are_alike(row: &StringRecord, other: &StringRecord) -> bool
 fn misfit(
     options: &Options,
     is_ragged: bool,
-    above: &[StringRecord],
-    rows: &[StringRecord],
+    above: &[TextRow],
+    rows: &[TextRow],
 ) -> Option<FurtherFault>
     ensures { result ≡ spec.misfit options.now is_ragged (map fields_of above.now) (map fields_of rows.now) }
 {
@@ -66,11 +66,7 @@ fn names_columns(options: &Options) -> bool
 }
 
 // The rows that a further input holds, whose number is this, or why there are none.
-fn rows_held(
-    alloc: Global,
-    number: usize,
-    input: &FurtherInput,
-) -> Result<Vec<StringRecord>, InputFault>
+fn rows_held(alloc: Global, number: usize, input: &FurtherInput) -> Result<Vec<TextRow>, InputFault>
     ensures rows { IfOk result (λ rows. map fields_of rows.items ≡ spec.rows_held input.now) }
     ensures fault { Tells (spec.fault_held number input.now) result }
 {
@@ -93,8 +89,8 @@ fn rows_held(
 // Appends rows, but for row 0 if it names the columns and rows are above it.
 fn append(
     options: &Options,
-    all: &mut Vec<StringRecord>,
-    mut rows: Vec<StringRecord>,
+    all: &mut Vec<TextRow>,
+    mut rows: Vec<TextRow>,
 ) -> Result<(), AllocError>
     ensures { OnOk result (map fields_of all.new.items ≡ beneath options.now (map fields_of all.old.items) (map fields_of rows.items)) }
 {
@@ -109,8 +105,8 @@ pub(crate) fn joined(
     alloc: Global,
     options: &Options,
     further: &[FurtherInput],
-    rows: Vec<StringRecord>,
-) -> Result<Vec<StringRecord>, InputFault>
+    rows: Vec<TextRow>,
+) -> Result<Vec<TextRow>, InputFault>
     ensures rows { IfOk result (λ all. map fields_of all.items ≡ spec.joined options.now further.now (map fields_of rows.items)) }
     ensures fault { Tells (spec.further_fault options.now further.now (map fields_of rows.items)) result }
 {

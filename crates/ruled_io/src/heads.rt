@@ -15,8 +15,8 @@ use crate::pieces::Pieces;
 use crate::reader::Reading;
 use crate::request::{Request, Source};
 use crate::stream::{read_first, wrong_within};
-use csv::StringRecord;
 use ruled_json::MemberRules;
+use ruled_row::TextRow;
 use ruled_table::limit_of;
 use std::alloc::Global;
 use std::io::Read;
@@ -44,7 +44,7 @@ fn first_rows<R: Read + Drop>(
     limit: usize,
     front: &[u8],
     pieces: &mut Pieces<R>,
-) -> Result<Vec<StringRecord>, RunFault>
+) -> Result<Vec<TextRow>, RunFault>
     ensures rows { (rest : List ℕ) → R.remaining pieces.old.input ≡ Some rest → IfOk result (λ rows. AreFirst format limit (front.now ++ rest) (map fields_of rows.items)) }
     ensures cause { (rest : List ℕ) → R.remaining pieces.old.input ≡ Some rest → IfErr result (LacksFirst format limit (front.now ++ rest)) }
     ensures unwritten { IfErr result (λ fault. write_part fault ≡ None) }
@@ -67,7 +67,7 @@ fn whole_rows<R: Read + Drop>(
     source: &Source,
     front: Vec<u8>,
     pieces: &mut Pieces<R>,
-) -> Result<Vec<StringRecord>, RunFault>
+) -> Result<Vec<TextRow>, RunFault>
     ensures rows { IfOk result (λ rows. IfSome (R.remaining pieces.old.input) (λ rest. AreRows None source.now (front.items ++ rest) (map fields_of rows.items))) }
     ensures cause { IfErr result (λ fault. IfSome (R.remaining pieces.old.input) (λ rest. LacksInput None source.now (front.items ++ rest) fault)) }
     ensures unwritten { IfErr result (λ fault. write_part fault ≡ None) }
@@ -84,7 +84,7 @@ pub(crate) fn read_heads<R: Read + Drop>(
     source: &Source,
     limit: usize,
     pieces: &mut Pieces<R>,
-) -> Result<Vec<StringRecord>, RunFault>
+) -> Result<Vec<TextRow>, RunFault>
     ensures rows { IfOk result (λ rows. IfSome (R.remaining pieces.old.input) (λ bytes. AreRows (Some limit) source.now bytes (map fields_of rows.items))) }
     ensures cause { IfErr result (λ fault. IfSome (R.remaining pieces.old.input) (λ bytes. LacksInput (Some limit) source.now bytes fault)) }
     ensures unwritten { IfErr result (λ fault. write_part fault ≡ None) }

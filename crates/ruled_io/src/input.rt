@@ -11,9 +11,9 @@ use crate::database::asked_rows;
 use crate::fault::InputFault;
 use crate::formats::{Format, Known, content_of, format_in};
 use crate::request::Source;
-use csv::StringRecord;
 use ruled_csv::{read_rows, without_mark};
 use ruled_json::{MemberRules, read_line_rows};
+use ruled_row::TextRow;
 use std::alloc::Global;
 
 // The rows that bytes of this format hold, of JSON as these rules say.
@@ -22,7 +22,7 @@ fn rows_of(
     format: Format,
     members: &MemberRules,
     bytes: &[u8],
-) -> Result<Vec<StringRecord>, InputFault>
+) -> Result<Vec<TextRow>, InputFault>
     ensures rows { IfOk result (λ rows. map fields_of rows.items ≡ rows_of (rules_of members.now) format bytes.now) }
     ensures fault { Tells (format_fault (rules_of members.now) format bytes.now) result }
 {
@@ -39,7 +39,7 @@ pub(crate) fn rows_in(
     known: Known,
     members: &MemberRules,
     bytes: &[u8],
-) -> Result<Vec<StringRecord>, InputFault>
+) -> Result<Vec<TextRow>, InputFault>
     ensures rows { IfOk result (λ rows. map fields_of rows.items ≡ rows_in None (rules_of members.now) known bytes.now) }
     ensures fault { Tells (input_fault None (rules_of members.now) known bytes.now) result }
 {
@@ -52,7 +52,7 @@ pub(crate) fn all_rows(
     alloc: Global,
     source: &Source,
     bytes: &[u8],
-) -> Result<Vec<StringRecord>, InputFault>
+) -> Result<Vec<TextRow>, InputFault>
     ensures rows { IfOk result (λ rows. AreRows None source.now bytes.now (map fields_of rows.items)) }
     ensures cause { IfErr result (LacksRows None source.now bytes.now) }
 {

@@ -11,14 +11,14 @@ ghost use Rattle.ruled_table.specs.declared.options.Options.{Options};
 
 use crate::fault::{InputFault, RunFault};
 use crate::output::Output;
-use csv::StringRecord;
+use ruled_row::TextRow;
 use ruled_table::TableRows;
 use std::io::Write;
 
 // Writes the lines of a row.
 fn write_row<W: Write + Drop>(
     table: &mut TableRows<'_>,
-    fields: &StringRecord,
+    fields: &TextRow,
     buf: &mut String,
     out: &mut Output<W>,
 ) -> Result<(), RunFault>
@@ -39,7 +39,7 @@ fn write_row<W: Write + Drop>(
 /// Writes the lines of rows.
 pub(crate) fn write_rows<W: Write + Drop>(
     table: &mut TableRows<'_>,
-    rows: &[StringRecord],
+    rows: &[TextRow],
     buf: &mut String,
     out: &mut Output<W>,
 ) -> Result<(), RunFault>

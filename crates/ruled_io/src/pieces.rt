@@ -14,7 +14,7 @@ use crate::fault::{InputFault, ReadFault, RunFault};
 use crate::formats::{Known, shows_input};
 use crate::reader::{Reader, Reading};
 use crate::request::Source;
-use csv::StringRecord;
+use ruled_row::TextRow;
 use std::alloc::Global;
 use std::io;
 use std::io::{ErrorKind, Read};
@@ -125,7 +125,7 @@ impl<R: Read + Drop> Pieces<R> {
     pub(crate) fn read_on(
         &mut self,
         reader: Reader,
-        rows: &mut Vec<StringRecord>,
+        rows: &mut Vec<TextRow>,
     ) -> Result<Reading, RunFault>
         ensures given { (format : Format) (rules : LineRules) (all : List ℕ) (given : List (List (List ℕ)))
             → Stands format rules all (R.remaining self.old.input) given (Reading.More reader)

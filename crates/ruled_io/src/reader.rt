@@ -9,9 +9,9 @@ ghost use Rattle.ruled_io.specs.declared.formats.Format.{Format};
 
 use crate::fault::{InputFault, StreamedFault};
 use crate::formats::Format;
-use csv::StringRecord;
 use ruled_csv::{RowReader, RowsFault};
 use ruled_json::{JsonFault, LineReader, MemberRules};
+use ruled_row::TextRow;
 use std::alloc::Global;
 
 /// A reader of the rows of a format.
@@ -37,11 +37,7 @@ impl Reader {
     /// Reads the next bytes, and appends the rows that are complete with them, or those above the first bad one.
     ///
     /// The only fault is out of memory.
-    pub(crate) fn read(
-        self,
-        bytes: &[u8],
-        rows: &mut Vec<StringRecord>,
-    ) -> Result<Reading, InputFault>
+    pub(crate) fn read(self, bytes: &[u8], rows: &mut Vec<TextRow>) -> Result<Reading, InputFault>
         ensures given { (format : Format) (rules : LineRules) (before behind : List ℕ) → HasTaken format rules before self
             → IfOk result (Gives format rules before bytes.now ((before ++ bytes.now) ++ behind) (map fields_of rows.old.items) (map fields_of rows.new.items)) }
         ensures memory { IfErr result (λ fault. fault ≡ InputFault.Memory) }
@@ -64,7 +60,7 @@ impl Reader {
     /// the first bad one.
     ///
     /// The only fault is out of memory.
-    pub(crate) fn finish(self, rows: &mut Vec<StringRecord>) -> Result<Reading, InputFault>
+    pub(crate) fn finish(self, rows: &mut Vec<TextRow>) -> Result<Reading, InputFault>
         ensures given { (format : Format) (rules : LineRules) (bytes : List ℕ) → HasTaken format rules bytes self
             → IfOk result (Ends format rules bytes (map fields_of rows.old.items) (map fields_of rows.new.items)) }
         ensures memory { IfErr result (λ fault. fault ≡ InputFault.Memory) }
@@ -95,7 +91,7 @@ impl Reading {
         members: &MemberRules,
         records: usize,
         front: &[u8],
-        rows: &mut Vec<StringRecord>,
+        rows: &mut Vec<TextRow>,
     ) -> Result<Reading, InputFault>
         ensures given { (rest : List ℕ) → IfOk result (GoesOn format (record { records = records; members = rules_of members.now }) (front.now ++ rest) (Some rest) [] (map fields_of rows.old.items) (map fields_of rows.new.items)) }
         ensures memory { IfErr result (λ fault. fault ≡ InputFault.Memory) }

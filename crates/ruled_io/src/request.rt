@@ -6,10 +6,10 @@ ghost use Rattle.ruled_json.specs.Rows.{plain_rules, rules_of};
 ghost use Rattle.ruled_io.specs.Requests as spec;
 
 use crate::formats::{Format, Known, is_database};
-use csv::StringRecord;
 use ruled_csv::RowRules;
 use ruled_database::keeps_log;
 use ruled_json::MemberRules;
+use ruled_row::TextRow;
 use ruled_table::{Options, field_at};
 
 /// What is known of the logs beside the file of a database.
@@ -215,7 +215,7 @@ impl Source {
     }
 
     // The first place at which a record that is alone below row 0 has an array of objects, which a path may lead to.
-    pub(crate) fn inner_place(&self, rows: &[StringRecord]) -> Option<usize>
+    pub(crate) fn inner_place(&self, rows: &[TextRow]) -> Option<usize>
         ensures { result ≡ spec.inner_place self.now (map fields_of rows.now) }
     {
         if self.may_be_value() {
@@ -278,7 +278,7 @@ fn has_records(text: &str) -> bool
 }
 
 // The first place at which a record that is alone below row 0 has an array of objects.
-fn records_place(rows: &[StringRecord]) -> Option<usize>
+fn records_place(rows: &[TextRow]) -> Option<usize>
     ensures { result ≡ spec.records_place (map fields_of rows.now) }
 {
     let [_, fields] = rows else {

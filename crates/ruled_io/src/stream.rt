@@ -25,8 +25,8 @@ use crate::pieces::Pieces;
 use crate::program::Remarks;
 use crate::reader::Reading;
 use crate::request::Request;
-use csv::StringRecord;
 use ruled_json::MemberRules;
+use ruled_row::TextRow;
 use ruled_table::{Layout, Options, TableRows, TextColors};
 use std::alloc::Global;
 use std::io::{Read, Write};
@@ -36,7 +36,7 @@ fn write_table<R: Read + Drop, W: Write + Drop>(
     alloc: Global,
     mut table: TableRows<'_>,
     mut reading: Reading,
-    mut rows: Vec<StringRecord>,
+    mut rows: Vec<TextRow>,
     pieces: &mut Pieces<R>,
     out: &mut Output<W>,
 ) -> Result<(), RunFault>
@@ -67,7 +67,7 @@ pub(crate) fn read_first<R: Read + Drop>(
     mut reading: Reading,
     count: usize,
     pieces: &mut Pieces<R>,
-    rows: &mut Vec<StringRecord>,
+    rows: &mut Vec<TextRow>,
 ) -> Result<Reading, RunFault>
     ensures given { (format : Format) (rules : LineRules) (all : List ℕ)
         → Stands format rules all (R.remaining pieces.old.input) (map fields_of rows.old.items) reading
@@ -106,7 +106,7 @@ fn show_table<R: Read + Drop, W: Write + Drop>(
     options: &Options,
     count: usize,
     reading: Reading,
-    mut rows: Vec<StringRecord>,
+    mut rows: Vec<TextRow>,
     pieces: &mut Pieces<R>,
     out: &mut Output<W>,
 ) -> Result<Remarks, RunFault>

@@ -12,8 +12,8 @@ use crate::fault::JsonFault;
 use crate::line_table::LineTable;
 use crate::lines::split_line;
 use crate::member_names::MemberRules;
-use csv::StringRecord;
 use json::Scratch;
+use ruled_row::TextRow;
 use std::alloc::{AllocError, Global};
 use std::mem;
 
@@ -81,7 +81,7 @@ impl LineReader {
         &mut self,
         scratch: &mut Scratch,
         line: &[u8],
-        rows: &mut Vec<StringRecord>,
+        rows: &mut Vec<TextRow>,
     ) -> Result<(), JsonFault>
         ensures kept { (self.new.line ≡ self.old.line) × (self.new.is_front ≡ false) }
         ensures read { (rules : LineRules) (above : List (List ℕ)) → HasLines rules above self.old.table
@@ -104,7 +104,7 @@ impl LineReader {
         &mut self,
         scratch: &mut Scratch,
         bytes: &[u8],
-        rows: &mut Vec<StringRecord>,
+        rows: &mut Vec<TextRow>,
     ) -> Result<(), JsonFault>
         requires within { NoFeed bytes.now }
         ensures read { (rules : LineRules) (before : List ℕ) → HasRead rules before self.old → OnOk result (HasRead rules (before ++ (bytes.now ++ 10 ∷ [])) self.new) }
@@ -123,7 +123,7 @@ impl LineReader {
     }
 
     /// Reads the next bytes, and appends the rows that are complete with them.
-    pub fn read(self, bytes: &[u8], rows: &mut Vec<StringRecord>) -> Result<LineReader, JsonFault>
+    pub fn read(self, bytes: &[u8], rows: &mut Vec<TextRow>) -> Result<LineReader, JsonFault>
         ensures read { (rules : LineRules) (before : List ℕ) → HasRead rules before self → IfOk result (λ reader. HasRead rules (before ++ bytes.now) reader) }
         ensures rows { (rules : LineRules) (before : List ℕ) → HasRead rules before self
             → OnOk result (AppendsRest (ended_line_rows rules before) (ended_line_rows rules (before ++ bytes.now)) (map fields_of rows.old.items) (map fields_of rows.new.items)) }
@@ -143,7 +143,7 @@ impl LineReader {
     }
 
     /// Ends the reading when no byte is left, and appends the remaining rows.
-    pub fn finish(self, rows: &mut Vec<StringRecord>) -> Result<(), JsonFault>
+    pub fn finish(self, rows: &mut Vec<TextRow>) -> Result<(), JsonFault>
         ensures rows { (rules : LineRules) (bytes : List ℕ) → HasRead rules bytes self
             → OnOk result (AppendsRest (ended_line_rows rules bytes) (sound_line_rows rules bytes) (map fields_of rows.old.items) (map fields_of rows.new.items)) }
         ensures fault { (rules : LineRules) (bytes : List ℕ) → HasRead rules bytes self → Tells (streamed_line_fault rules bytes) result }

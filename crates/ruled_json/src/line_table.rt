@@ -16,8 +16,8 @@ use crate::lines::{line_after, lines_of, record_on};
 use crate::member_names::{MemberNames, MemberRules};
 use crate::objects::flat_record;
 use bumpalo::Bump;
-use csv::StringRecord;
 use json::{Scratch, Value};
+use ruled_row::TextRow;
 use std::alloc::{AllocError, Global};
 use std::mem;
 
@@ -35,7 +35,7 @@ pub(crate) struct LineTable {
     left: usize,
     // The rows of those that came, until the last one has. Each has the columns that were known
     // then.
-    held: Vec<StringRecord>,
+    held: Vec<TextRow>,
     // The number of the next line.
     number: usize,
 }
@@ -62,7 +62,7 @@ impl LineTable {
     }
 
     // Appends the header and the held rows.
-    fn push_held(&mut self, rows: &mut Vec<StringRecord>) -> Result<(), AllocError>
+    fn push_held(&mut self, rows: &mut Vec<TextRow>) -> Result<(), AllocError>
         ensures kept { (self.new.names ≡ self.old.names) × (self.new.left ≡ self.old.left) × (self.new.number ≡ self.old.number) × (self.new.null ≡ self.old.null) × (self.new.is_flat ≡ self.old.is_flat) }
         ensures rows { (word : List ℕ) (records : List Json)
             → map (padded (length (columns_in self.old))) (map fields_of self.old.held.items) ≡ map (row_of word (columns_in self.old)) records
@@ -99,7 +99,7 @@ impl LineTable {
         &self,
         number: usize,
         value: &Value<'_>,
-        rows: &mut Vec<StringRecord>,
+        rows: &mut Vec<TextRow>,
     ) -> Result<(), JsonFault>
         requires numbers { HasNumbers (value_view value.now) }
         ensures fault { Tells (if has_all (columns_in self.now) (value_view value.now) then None else Some (NoColumn (Line number))) result }
@@ -123,7 +123,7 @@ impl LineTable {
         &mut self,
         number: usize,
         value: &Value<'_>,
-        rows: &mut Vec<StringRecord>,
+        rows: &mut Vec<TextRow>,
     ) -> Result<(), JsonFault>
         requires numbers { HasNumbers (value_view value.now) }
         ensures kept { (self.new.number ≡ self.old.number) × (self.new.is_flat ≡ self.old.is_flat) }
@@ -152,7 +152,7 @@ impl LineTable {
         &mut self,
         scratch: &mut Scratch,
         line: &[u8],
-        rows: &mut Vec<StringRecord>,
+        rows: &mut Vec<TextRow>,
     ) -> Result<(), JsonFault>
         ensures read { (rules : LineRules) (above : List (List ℕ)) → HasLines rules above self.old → OnOk result (HasLines rules (above ++ line.now ∷ []) self.new) }
         ensures rows { (rules : LineRules) (above : List (List ℕ)) → HasLines rules above self.old
@@ -183,7 +183,7 @@ impl LineTable {
     }
 
     /// Appends the held rows when no line is left.
-    pub(crate) fn finish(&mut self, rows: &mut Vec<StringRecord>) -> Result<(), AllocError>
+    pub(crate) fn finish(&mut self, rows: &mut Vec<TextRow>) -> Result<(), AllocError>
         ensures rest { (rules : LineRules) (above : List Json) → HasRecords rules above self.old
             → OnOk result (AppendsRest (ended_table rules above) (streamed_table rules above) (map fields_of rows.old.items) (map fields_of rows.new.items)) }
     {
@@ -203,7 +203,7 @@ pub fn read_line_rows(
     alloc: Global,
     rules: &MemberRules,
     bytes: &[u8],
-) -> Result<Vec<StringRecord>, JsonFault>
+) -> Result<Vec<TextRow>, JsonFault>
     ensures rows { IfOk result (λ rows. map fields_of rows.items ≡ line_rows_of (rules_of rules.now) bytes.now) }
     ensures fault { Tells (line_rows_fault bytes.now) result }
     ensures nothing { bytes.now ≡ [] → IsOk result }

@@ -12,9 +12,9 @@ ghost use Rattle.json.specs.Value.{members_view, value_view};
 ghost use Rattle.ruled_json.specs.Streamed.{padded};
 ghost use Rattle.ruled_json.specs.Rows.{cell_text, has_all, names_in, plain_rules, row_of, rules_of, with_name};
 
-use csv::StringRecord;
 use indexmap::{IndexMap, IndexSet};
 use json::{Value, to_vec};
+use ruled_row::TextRow;
 use std::alloc::{AllocError, Global};
 
 // The most columns for which members are looked up one by one.
@@ -70,7 +70,7 @@ fn is_text(name: &str, text: &str) -> bool
 // Appends the text of a member to a row, this one for null.
 fn push_cell(
     alloc: Global,
-    row: &mut StringRecord,
+    row: &mut TextRow,
     null: &str,
     value: Option<&Value<'_>>,
 ) -> Result<(), AllocError>
@@ -220,10 +220,10 @@ impl MemberNames {
     }
 
     /// The header.
-    pub(crate) fn header(&self, alloc: Global) -> Result<StringRecord, AllocError>
+    pub(crate) fn header(&self, alloc: Global) -> Result<TextRow, AllocError>
         ensures { IfOk result (λ row. fields_of row ≡ map string_bytes self.now.names.keys) }
     {
-        let mut row = StringRecord::new(alloc);
+        let mut row = TextRow::new(alloc);
         for name in self.names.as_slice() {
             row.push_field(name.as_str())?;
         }
@@ -231,11 +231,11 @@ impl MemberNames {
     }
 
     // A row of no cells, with room for some.
-    fn empty_row(&self, alloc: Global) -> Result<StringRecord, AllocError>
+    fn empty_row(&self, alloc: Global) -> Result<TextRow, AllocError>
         ensures { IfOk result (λ row. fields_of row ≡ []) }
     {
         let count = self.names.len();
-        StringRecord::with_capacity(alloc, count.saturating_mul(CELL), count)
+        TextRow::with_capacity(alloc, count.saturating_mul(CELL))
     }
 
     // The row of a record of few columns.
@@ -244,7 +244,7 @@ impl MemberNames {
         alloc: Global,
         null: &str,
         value: &Value<'_>,
-    ) -> Result<StringRecord, AllocError>
+    ) -> Result<TextRow, AllocError>
         requires numbers { HasNumbers (value_view value.now) }
         ensures { IfOk result (λ row. fields_of row ≡ row_of null.now (map string_bytes self.now.names.keys) (value_view value.now)) }
     {
@@ -256,12 +256,7 @@ impl MemberNames {
     }
 
     // The row of a record of many columns.
-    fn wide_row(
-        &self,
-        alloc: Global,
-        null: &str,
-        value: &Value<'_>,
-    ) -> Result<StringRecord, AllocError>
+    fn wide_row(&self, alloc: Global, null: &str, value: &Value<'_>) -> Result<TextRow, AllocError>
         requires numbers { HasNumbers (value_view value.now) }
         ensures { IfOk result (λ row. fields_of row ≡ row_of null.now (map string_bytes self.now.names.keys) (value_view value.now)) }
     {
@@ -279,7 +274,7 @@ impl MemberNames {
         alloc: Global,
         null: &str,
         value: &Value<'_>,
-    ) -> Result<StringRecord, AllocError>
+    ) -> Result<TextRow, AllocError>
         requires numbers { HasNumbers (value_view value.now) }
         ensures { IfOk result (λ row. fields_of row ≡ row_of null.now (map string_bytes self.now.names.keys) (value_view value.now)) }
     {
@@ -292,7 +287,7 @@ impl MemberNames {
 
     /// The row, with empty cells in the columns after its own.
     #[tactic(auto, using(crate::proofs::Tables::names_of_members))]
-    pub(crate) fn padded(&self, row: StringRecord) -> Result<StringRecord, AllocError>
+    pub(crate) fn padded(&self, row: TextRow) -> Result<TextRow, AllocError>
         ensures { IfOk result (λ padded_row. fields_of padded_row ≡ padded (length (map string_bytes self.now.names.keys)) (fields_of row)) }
     {
         let mut row = row;

@@ -15,8 +15,8 @@ use crate::member_names::{MemberNames, MemberRules};
 use crate::objects::flat_records;
 use crate::walk::offset_of_bad;
 use bumpalo::Bump;
-use csv::StringRecord;
 use json::{Error, Scratch, Value, is_valid};
+use ruled_row::TextRow;
 use std::alloc::{AllocError, Global};
 use std::slice;
 
@@ -118,11 +118,7 @@ fn columns_of(alloc: Global, records: &[Value<'_>]) -> Result<MemberNames, Alloc
 
 // The rows of records, with this text for null.
 #[tactic(auto, using(crate::proofs::Views::each_has_numbers))]
-fn table_of(
-    alloc: Global,
-    null: &str,
-    records: &[Value<'_>],
-) -> Result<Vec<StringRecord>, AllocError>
+fn table_of(alloc: Global, null: &str, records: &[Value<'_>]) -> Result<Vec<TextRow>, AllocError>
     requires numbers { All HasNumbers (map value_view records.now) }
     ensures { IfOk result (λ rows. map fields_of rows.items ≡ table_of null.now (map value_view records.now)) }
 {
@@ -143,7 +139,7 @@ fn shown_table(
     alloc: Global,
     rules: &MemberRules,
     records: &[Value<'_>],
-) -> Result<Vec<StringRecord>, AllocError>
+) -> Result<Vec<TextRow>, AllocError>
     requires numbers { All HasNumbers (map value_view records.now) }
     ensures { IfOk result (λ rows. map fields_of rows.items ≡ table_of (string_bytes rules.now.null) (map (shown_record rules.now.is_flat) (map value_view records.now))) }
 {
@@ -157,12 +153,8 @@ fn shown_table(
 }
 
 // The rows of a value, with these rules.
-#[tactic(auto, using(crate::proofs::Views::those_have_numbers))]
-fn rows_in(
-    alloc: Global,
-    rules: &MemberRules,
-    value: &Value<'_>,
-) -> Result<Vec<StringRecord>, JsonFault>
+#[tactic(auto, using(crate::proofs::Views::records_have_numbers))]
+fn rows_in(alloc: Global, rules: &MemberRules, value: &Value<'_>) -> Result<Vec<TextRow>, JsonFault>
     requires numbers { HasNumbers (value_view value.now) }
     ensures rows { IfOk result (λ rows. map fields_of rows.items ≡ table_of (string_bytes rules.now.null) (map (shown_record rules.now.is_flat) (records_in (value_view value.now)))) }
     ensures fault { Tells (value_fault (value_view value.now)) result }
@@ -193,7 +185,7 @@ pub fn read_rows(
     alloc: Global,
     rules: &MemberRules,
     bytes: &[u8],
-) -> Result<Vec<StringRecord>, JsonFault>
+) -> Result<Vec<TextRow>, JsonFault>
     ensures rows { IfOk result (λ rows. map fields_of rows.items ≡ rows_of (rules_of rules.now) bytes.now) }
     ensures fault { Tells (rows_fault (map string_bytes rules.now.path.items) bytes.now) result }
     ensures nothing { bytes.now ≡ [] → result ≡ Err (Syntax (Near 1)) }

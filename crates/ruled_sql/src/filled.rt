@@ -12,7 +12,7 @@ ghost use Rattle.ruled_sql.specs.Filled as spec;
 
 use crate::fault::{SqlFault, is_memory};
 use crate::statements::{columns_text, create_text, field_at, insert_text, settle_text};
-use csv::StringRecord;
+use ruled_row::TextRow;
 use sqlite::{Connection, Error};
 use sqlite_resolve::CompileError;
 use sqlite_trees::memory::MemStore;
@@ -33,7 +33,7 @@ fn value_of(text: &str) -> ValueRef<'_>
 // So many values of a row: those of its fields, and NULL where it has none.
 fn values_of<'a>(
     alloc: Global,
-    fields: &'a StringRecord,
+    fields: &'a TextRow,
     count: usize,
 ) -> Result<Vec<ValueRef<'a>>, AllocError>
     ensures { IfOk result (λ values. bound values.items ≡ spec.values_of count (fields_of fields.now)) }
@@ -66,7 +66,7 @@ fn insert_row(
     connection: &mut Connection<MemStore>,
     text: &str,
     count: usize,
-    fields: &StringRecord,
+    fields: &TextRow,
 ) -> Result<(), Error>
     ensures runs { OnOk result (spec.IsRun (text.now, spec.values_of count (fields_of fields.now)) connection.old connection.new) }
     ensures fails { IfErr result (λ error. is_memory error ≡ false → spec.IsStuck (text.now, spec.values_of count (fields_of fields.now)) connection.old error) }
@@ -81,7 +81,7 @@ fn insert_rows(
     connection: &mut Connection<MemStore>,
     text: &str,
     count: usize,
-    records: &[StringRecord],
+    records: &[TextRow],
 ) -> Result<(), Error>
     ensures runs { OnOk result (spec.AreRun (spec.insertions text.now count (map fields_of records.now)) connection.old connection.new) }
     ensures fails { IfErr result (λ error. is_memory error ≡ false → spec.AreCut (spec.insertions text.now count (map fields_of records.now)) connection.old error) }
@@ -98,7 +98,7 @@ fn fill(
     connection: &mut Connection<MemStore>,
     table: &str,
     count: usize,
-    records: &[StringRecord],
+    records: &[TextRow],
 ) -> Result<(), Error>
     ensures runs { OnOk result (spec.AreRun (spec.fillings table.now count (map fields_of records.now)) connection.old connection.new) }
     ensures fails { IfErr result (λ error. is_memory error ≡ false → spec.AreCut (spec.fillings table.now count (map fields_of records.now)) connection.old error) }
@@ -180,7 +180,7 @@ pub(crate) fn filled(
     table: &str,
     columns: &str,
     count: usize,
-    records: &[StringRecord],
+    records: &[TextRow],
 ) -> Result<Connection<MemStore>, SqlFault>
     ensures filled { IfOk result (spec.IsFilled (spec.filling table.now columns.now count (map fields_of records.now))) }
     ensures fault { IfErr result (spec.LacksTable (spec.filling table.now columns.now count (map fields_of records.now))) }

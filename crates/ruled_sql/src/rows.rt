@@ -11,52 +11,47 @@ use crate::database::{answer_of, open};
 use crate::fault::{QueryFault, SqlFault};
 use crate::filled::{filled, name_for};
 use crate::statements::columns_text;
-use csv::{ByteRecord, StringRecord};
 use ruled_database::push_value;
+use ruled_row::{RowBuffer, TextRow};
 use sqlite::{Error, Row};
 use sqlite_resolve::CompileError;
 use sqlite_value::value::Bytes;
 use std::alloc::Global;
 
 // The texts as a row of this number.
-fn row_of(texts: ByteRecord, row: usize) -> Result<StringRecord, QueryFault>
-    ensures fields { IfOk result (λ fields. fields_of fields ≡ fields_of texts) }
-    ensures fault { IfErr result (IsFaultOfRow row (fields_of texts)) }
+fn row_of(texts: &RowBuffer, row: usize) -> Result<TextRow, QueryFault>
+    ensures fields { IfOk result (λ fields. fields_of fields ≡ fields_of texts.now) }
+    ensures fault { IfErr result (IsFaultOfRow row (fields_of texts.now)) }
 {
-    match StringRecord::from_byte_record(texts) {
-        Ok(fields) => Ok(fields),
-        Err(_) => Err(QueryFault::Encoding(row)),
+    match texts.to_row()? {
+        Some(fields) => Ok(fields),
+        None => Err(QueryFault::Encoding(row)),
     }
 }
 
 // The names of the columns.
-fn header_of(alloc: Global, names: &[Bytes]) -> Result<StringRecord, QueryFault>
+fn header_of(alloc: Global, names: &[Bytes]) -> Result<TextRow, QueryFault>
     ensures fields { IfOk result (λ fields. fields_of fields ≡ names.now) }
     ensures fault { IfErr result (IsFaultOfRow 0 names.now) }
 {
-    let mut texts = ByteRecord::new(alloc);
+    let mut texts = RowBuffer::new(alloc);
     for name in names {
         texts.push_field(name.as_slice())?;
     }
-    row_of(texts, 0)
+    row_of(&texts, 0)
 }
 
 // The values of a row, with this text for NULL.
-fn fields_in(
-    alloc: Global,
-    null: &str,
-    row: usize,
-    values: &Row,
-) -> Result<StringRecord, QueryFault>
+fn fields_in(alloc: Global, null: &str, row: usize, values: &Row) -> Result<TextRow, QueryFault>
     ensures fields { IfOk result (λ fields. fields_of fields ≡ map (shown_text null.now) values.now) }
     ensures fault { IfErr result (IsFaultOfRow row (map (shown_text []) values.now)) }
 {
-    let mut texts = ByteRecord::new(alloc);
+    let mut texts = RowBuffer::new(alloc);
     for at in 0..values.column_count() {
         let value = values.get_ref(at).unwrap();
         push_value(alloc, &mut texts, null.as_bytes(), value)?;
     }
-    row_of(texts, row)
+    row_of(&texts, row)
 }
 
 // The rows of an answer, with the names of the columns as row 0, and this text for NULL.
@@ -65,7 +60,7 @@ fn rows_in(
     null: &str,
     names: &[Bytes],
     answer: &[Row],
-) -> Result<Vec<StringRecord>, QueryFault>
+) -> Result<Vec<TextRow>, QueryFault>
     ensures rows { IfOk result (λ rows. map fields_of rows.items ≡ shown_rows null.now names.now answer.now) }
     ensures fault { IfErr result (LacksText (shown_rows [] names.now answer.now)) }
 {
@@ -91,7 +86,7 @@ pub fn query_rows(
     query: &str,
     steps: u64,
     null: &str,
-) -> Result<Vec<StringRecord>, SqlFault>
+) -> Result<Vec<TextRow>, SqlFault>
     ensures rows { IfOk result (λ rows. AreAnswered bytes.now query.now steps null.now (map fields_of rows.items)) }
     ensures none { result ≡ Err Database → HoldsNone bytes.now }
     ensures fault { IfErr result (LacksRows bytes.now query.now steps) }
@@ -122,11 +117,11 @@ fn fault_of_table(fault: QueryFault) -> SqlFault
 pub fn query_table(
     alloc: Global,
     name: &str,
-    rows: &[StringRecord],
+    rows: &[TextRow],
     query: &str,
     steps: u64,
     null: &str,
-) -> Result<Vec<StringRecord>, SqlFault>
+) -> Result<Vec<TextRow>, SqlFault>
     ensures rows { IfOk result (λ answer. AreQueried name.now (map fields_of rows.now) query.now steps null.now (map fields_of answer.items)) }
     ensures none { result ≡ Err NoRows → rows.now ≡ [] }
     ensures fault { IfErr result (LacksQueried name.now (map fields_of rows.now) query.now steps) }

@@ -5,7 +5,7 @@ ghost use Rattle.csv.specs.Records.{fields_of};
 ghost use Rattle.ruled_sql.specs.Filled as spec;
 
 use crate::number::is_number;
-use csv::StringRecord;
+use ruled_row::TextRow;
 use std::alloc::{AllocError, Global};
 
 // A number, or nothing.
@@ -19,7 +19,7 @@ fn may_be_number(text: Option<&str>) -> bool
 }
 
 // Whether the fields at this place are numbers, where they aren't empty.
-fn are_numbers(records: &[StringRecord], place: usize) -> bool
+fn are_numbers(records: &[TextRow], place: usize) -> bool
     ensures { result ≡ spec.are_numbers (map fields_of records.now) place }
 {
     for fields in records {
@@ -32,7 +32,7 @@ fn are_numbers(records: &[StringRecord], place: usize) -> bool
 
 /// A field of a row, or an empty text where there is none.
 #[tactic(auto, using(crate::proofs::Filling::field_missing, crate::proofs::Filling::field_there))]
-pub(crate) fn field_at(fields: &StringRecord, place: usize) -> &str
+pub(crate) fn field_at(fields: &TextRow, place: usize) -> &str
     ensures { result.now ≡ slice_index_or (fields_of fields.now) place [] }
 {
     match fields.get(place) {
@@ -70,7 +70,7 @@ pub(crate) fn quoted(alloc: Global, name: &str) -> Result<String, AllocError>
 }
 
 // The name of the column at a place.
-fn column_name(alloc: Global, names: &StringRecord, place: usize) -> Result<String, AllocError>
+fn column_name(alloc: Global, names: &TextRow, place: usize) -> Result<String, AllocError>
     requires { place + 1 < 2 ^ 64 }
     ensures { IfOk result (λ text. string_bytes text ≡ spec.column_name (fields_of names.now) place) }
 {
@@ -84,8 +84,8 @@ fn column_name(alloc: Global, names: &StringRecord, place: usize) -> Result<Stri
 // The name of the column at a place, and the type of its values.
 fn column_text(
     alloc: Global,
-    names: &StringRecord,
-    records: &[StringRecord],
+    names: &TextRow,
+    records: &[TextRow],
     place: usize,
 ) -> Result<String, AllocError>
     requires { place + 1 < 2 ^ 64 }
@@ -103,8 +103,8 @@ fn column_text(
 /// The columns of a table.
 pub(crate) fn columns_text(
     alloc: Global,
-    names: &StringRecord,
-    records: &[StringRecord],
+    names: &TextRow,
+    records: &[TextRow],
 ) -> Result<String, AllocError>
     ensures { IfOk result (λ text. string_bytes text ≡ spec.columns_text (fields_of names.now) (map fields_of records.now)) }
 {

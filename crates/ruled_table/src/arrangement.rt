@@ -9,11 +9,11 @@ use crate::columns::{field_at, first_meant};
 use crate::fault::ViewFault;
 use crate::options::{Options, Sort};
 use crate::order::sorted;
-use csv::StringRecord;
+use ruled_row::TextRow;
 use std::alloc::{AllocError, Global};
 
 // The greater one of a number and of how many fields a row has.
-fn longer(longest: usize, fields: &StringRecord) -> usize
+fn longer(longest: usize, fields: &TextRow) -> usize
     ensures { result ≡ max longest (length (fields_of fields.now)) }
 {
     let count = fields.len();
@@ -21,7 +21,7 @@ fn longer(longest: usize, fields: &StringRecord) -> usize
 }
 
 // How many fields the longest row has.
-fn longest(rows: &[StringRecord]) -> usize
+fn longest(rows: &[TextRow]) -> usize
     ensures { result ≡ spec.longest (map fields_of rows.now) }
 {
     let mut longest = 0;
@@ -32,14 +32,10 @@ fn longest(rows: &[StringRecord]) -> usize
 }
 
 // So many fields of a row, of which those behind its last one are empty.
-fn padded_to(
-    alloc: Global,
-    columns: usize,
-    fields: &StringRecord,
-) -> Result<StringRecord, AllocError>
+fn padded_to(alloc: Global, columns: usize, fields: &TextRow) -> Result<TextRow, AllocError>
     ensures { IfOk result (λ padded. fields_of padded ≡ spec.padded_to columns (fields_of fields.now)) }
 {
-    let mut padded = StringRecord::new(alloc);
+    let mut padded = TextRow::new(alloc);
     for place in 0..columns {
         padded.push_field(field_at(fields, place))?;
     }
@@ -47,7 +43,7 @@ fn padded_to(
 }
 
 // The rows of an input below its header, if it has one.
-fn below_header<'a>(options: &Options, rows: &'a [StringRecord]) -> &'a [StringRecord]
+fn below_header<'a>(options: &Options, rows: &'a [TextRow]) -> &'a [TextRow]
     ensures { result.now ≡ spec.below_header options.now rows.now }
 {
     match rows {
@@ -57,7 +53,7 @@ fn below_header<'a>(options: &Options, rows: &'a [StringRecord]) -> &'a [StringR
 }
 
 // How many rows have fewer fields than this.
-fn count_shorter(columns: usize, rows: &[StringRecord]) -> usize
+fn count_shorter(columns: usize, rows: &[TextRow]) -> usize
     ensures { result ≡ count_by (λ fields. nat_lt (length (fields_of fields)) columns) rows.now }
 {
     rows.iter().filter(|fields| fields.len() < columns).count()
@@ -65,7 +61,7 @@ fn count_shorter(columns: usize, rows: &[StringRecord]) -> usize
 
 /// How many rows of an input, which are below its header, have fewer fields than there are columns: fields of the longest
 /// row, or names. It is 0 where such rows aren't padded.
-pub fn padded_rows(options: &Options, rows: &[StringRecord]) -> usize
+pub fn padded_rows(options: &Options, rows: &[TextRow]) -> usize
     ensures { result ≡ spec.padded_rows options.now (map fields_of rows.now) }
 {
     if !options.is_padded {
@@ -76,7 +72,7 @@ pub fn padded_rows(options: &Options, rows: &[StringRecord]) -> usize
 }
 
 /// Rows of which row 0 has as many fields as the longest row. Only memory can fail.
-pub fn padded(alloc: Global, rows: Vec<StringRecord>) -> Result<Vec<StringRecord>, AllocError>
+pub fn padded(alloc: Global, rows: Vec<TextRow>) -> Result<Vec<TextRow>, AllocError>
     ensures { IfOk result (λ padded. map fields_of padded.items ≡ spec.padded (map fields_of rows.items)) }
 {
     if rows.is_empty() {
@@ -99,10 +95,10 @@ fn name_at(names: &[String], place: usize) -> &str
 }
 
 // A row of these names, and of empty ones up to so many columns.
-fn row_of_names(alloc: Global, columns: usize, names: &[String]) -> Result<StringRecord, AllocError>
+fn row_of_names(alloc: Global, columns: usize, names: &[String]) -> Result<TextRow, AllocError>
     ensures { IfOk result (λ row. fields_of row ≡ spec.padded_to columns (map string_bytes names.now)) }
 {
-    let mut row = StringRecord::new(alloc);
+    let mut row = TextRow::new(alloc);
     for place in 0..columns {
         row.push_field(name_at(names, place))?;
     }
@@ -110,7 +106,7 @@ fn row_of_names(alloc: Global, columns: usize, names: &[String]) -> Result<Strin
 }
 
 // How many columns names have in front of rows.
-fn columns_named(names: &[String], rows: &[StringRecord]) -> usize
+fn columns_named(names: &[String], rows: &[TextRow]) -> usize
     ensures { result ≡ spec.columns_named (map string_bytes names.now) (map fields_of rows.now) }
 {
     match rows {
@@ -124,8 +120,8 @@ fn columns_named(names: &[String], rows: &[StringRecord]) -> usize
 pub fn named(
     alloc: Global,
     names: &[String],
-    rows: Vec<StringRecord>,
-) -> Result<Vec<StringRecord>, AllocError>
+    rows: Vec<TextRow>,
+) -> Result<Vec<TextRow>, AllocError>
     ensures { IfOk result (λ named. map fields_of named.items ≡ spec.named (map string_bytes names.now) (map fields_of rows.items)) }
 {
     if names.is_empty() {
@@ -138,11 +134,7 @@ pub fn named(
 }
 
 // Rows of one length, as far as row 0 has it.
-fn even(
-    alloc: Global,
-    options: &Options,
-    rows: Vec<StringRecord>,
-) -> Result<Vec<StringRecord>, AllocError>
+fn even(alloc: Global, options: &Options, rows: Vec<TextRow>) -> Result<Vec<TextRow>, AllocError>
     ensures { IfOk result (λ even. map fields_of even.items ≡ spec.even options.now (map fields_of rows.items)) }
 {
     if options.is_padded {
@@ -162,14 +154,10 @@ fn label_of(alloc: Global, number: usize) -> Result<String, AllocError>
 }
 
 // A row with its number in front.
-fn with_number(
-    alloc: Global,
-    number: usize,
-    fields: &StringRecord,
-) -> Result<StringRecord, AllocError>
+fn with_number(alloc: Global, number: usize, fields: &TextRow) -> Result<TextRow, AllocError>
     ensures { IfOk result (λ row. fields_of row ≡ spec.label_of number ∷ fields_of fields.now) }
 {
-    let mut row = StringRecord::new(alloc);
+    let mut row = TextRow::new(alloc);
     row.push_field(label_of(alloc, number)?.as_str())?;
     for place in 0..fields.len() {
         row.push_field(field_at(fields, place))?;
@@ -178,11 +166,7 @@ fn with_number(
 }
 
 // Rows with their numbers in front, of which the first row has this one.
-fn numbered_from(
-    alloc: Global,
-    first: usize,
-    rows: &[StringRecord],
-) -> Result<Vec<StringRecord>, AllocError>
+fn numbered_from(alloc: Global, first: usize, rows: &[TextRow]) -> Result<Vec<TextRow>, AllocError>
     requires { first ≤ 1 }
     ensures { IfOk result (λ numbered. map fields_of numbered.items ≡ spec.numbered_from first (map fields_of rows.now)) }
 {
@@ -197,8 +181,8 @@ fn numbered_from(
 fn numbered(
     alloc: Global,
     options: &Options,
-    rows: Vec<StringRecord>,
-) -> Result<Vec<StringRecord>, AllocError>
+    rows: Vec<TextRow>,
+) -> Result<Vec<TextRow>, AllocError>
     ensures { IfOk result (λ numbered. map fields_of numbered.items ≡ spec.numbered options.now (map fields_of rows.items)) }
 {
     if options.is_numbered {
@@ -208,11 +192,7 @@ fn numbered(
 }
 
 // Rows above which names are, of one length.
-fn leveled(
-    alloc: Global,
-    options: &Options,
-    rows: Vec<StringRecord>,
-) -> Result<Vec<StringRecord>, AllocError>
+fn leveled(alloc: Global, options: &Options, rows: Vec<TextRow>) -> Result<Vec<TextRow>, AllocError>
     ensures { IfOk result (λ leveled. map fields_of leveled.items ≡ spec.leveled options.now (map fields_of rows.items)) }
 {
     let rows = named(alloc, &options.names, rows)?;
@@ -220,11 +200,7 @@ fn leveled(
 }
 
 // The column that sorts rows, or the fault that row 0 has none. Where there are no rows, none does.
-fn sort_column(
-    alloc: Global,
-    sort: &Sort,
-    rows: &[StringRecord],
-) -> Result<Option<usize>, ViewFault>
+fn sort_column(alloc: Global, sort: &Sort, rows: &[TextRow]) -> Result<Option<usize>, ViewFault>
     ensures column { IfOk result (λ column. column ≡ spec.sort_column sort.now (map fields_of rows.now)) }
     ensures some { IfOk result (λ column. IfSome column (λ _. 0 < length rows.now)) }
     ensures fault { Tells (spec.missing_column sort.now (map fields_of rows.now)) result }
@@ -242,8 +218,8 @@ fn sort_column(
 fn sorted_by_word(
     alloc: Global,
     options: &Options,
-    rows: Vec<StringRecord>,
-) -> Result<Vec<StringRecord>, ViewFault>
+    rows: Vec<TextRow>,
+) -> Result<Vec<TextRow>, ViewFault>
     ensures rows { IfOk result (λ sorted. map fields_of sorted.items ≡ spec.sorted_by_word options.now options.now.sort (map fields_of rows.items)) }
     ensures fault { Tells (spec.sort_fault_by options.now.sort (map fields_of rows.items)) result }
 {
@@ -260,8 +236,8 @@ fn sorted_by_word(
 pub(crate) fn arranged(
     alloc: Global,
     options: &Options,
-    rows: Vec<StringRecord>,
-) -> Result<Vec<StringRecord>, ViewFault>
+    rows: Vec<TextRow>,
+) -> Result<Vec<TextRow>, ViewFault>
     ensures rows { IfOk result (λ arranged. map fields_of arranged.items ≡ spec.arranged options.now (map fields_of rows.items)) }
     ensures fault { Tells (spec.sort_fault options.now (map fields_of rows.items)) result }
 {

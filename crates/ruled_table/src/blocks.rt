@@ -19,8 +19,8 @@ use crate::options::Options;
 use crate::paired_rows::PairedRows;
 use crate::rows::{all_stand, made_record};
 use crate::table::{look_config, push_text};
-use csv::StringRecord;
 use pg_config::SpannedConfig;
+use ruled_row::TextRow;
 use std::alloc::{AllocError, Global};
 use std::slice;
 
@@ -32,22 +32,18 @@ pub struct Blocks<'a> {
     /// What each block looks like.
     config: SpannedConfig,
     /// The names of the fields, as they are shown.
-    names: StringRecord,
+    names: TextRow,
     /// The places of the shown fields in a record.
     places: Vec<Option<usize>>,
 }
 
 // The names in the first of these rows, as they are shown.
-fn names_of(
-    alloc: Global,
-    options: &Options,
-    rows: &[StringRecord],
-) -> Result<StringRecord, AllocError>
+fn names_of(alloc: Global, options: &Options, rows: &[TextRow]) -> Result<TextRow, AllocError>
     ensures { IfOk result (λ names. fields_of names ≡ map (shown_text options.now) (slice_index_or (map fields_of rows.now) 0 [])) }
 {
     match rows {
         [names, ..] => made_record(alloc, options, names),
-        [] => Ok(StringRecord::new(alloc)),
+        [] => Ok(TextRow::new(alloc)),
     }
 }
 
@@ -58,7 +54,7 @@ impl<'a> Blocks<'a> {
     pub fn new(
         alloc: Global,
         options: &'a Options,
-        rows: &[StringRecord],
+        rows: &[TextRow],
     ) -> Result<Blocks<'a>, ViewFault>
         ensures names { IfOk result (HasNames options.now (map fields_of rows.now)) }
         ensures fault { Tells (column_fault options.now.columns.items (map fields_of rows.now)) result }
@@ -78,8 +74,8 @@ impl<'a> Blocks<'a> {
     // Appends the block of a record, of which the other one has the texts that are shown.
     fn push_shown(
         &self,
-        fields: &StringRecord,
-        shown: &StringRecord,
+        fields: &TextRow,
+        shown: &TextRow,
         buf: &mut String,
     ) -> Result<(), ViewFault>
         ensures text { (options : Options) (rows : List (List Text)) → HasNames options rows self.now → fields_of shown.now ≡ map (shown_text options) (fields_of fields.now)
@@ -107,7 +103,7 @@ impl<'a> Blocks<'a> {
     }
 
     /// Appends the block of a record, and an empty line. If it fails, a beginning of them is appended.
-    pub fn push(&self, fields: &StringRecord, buf: &mut String) -> Result<(), ViewFault>
+    pub fn push(&self, fields: &TextRow, buf: &mut String) -> Result<(), ViewFault>
         ensures text { (options : Options) (rows : List (List Text)) → HasNames options rows self.now
             → OnOk result (string_bytes buf.new ≡ string_bytes buf.old ++ spec.record_block options rows (fields_of fields.now)) }
         ensures begun { (options : Options) (rows : List (List Text)) → HasNames options rows self.now

@@ -11,8 +11,8 @@ use crate::layout::Layout;
 use crate::numbers::{has_value, is_negative, is_number};
 use crate::options::Options;
 use crate::sides::is_missing;
-use csv::StringRecord;
 use pg_layout::{ANSIFmt, Colors, Position};
+use ruled_row::TextRow;
 
 /// A colour of a text.
 #[derive(Clone, Copy)]
@@ -82,13 +82,13 @@ pub struct TextColors<'a> {
     /// The place of each column's field in its row; of a block those of its rows.
     pub(crate) places: &'a [Option<usize>],
     /// The known rows of the table, or the record of the block.
-    pub(crate) rows: &'a [StringRecord],
+    pub(crate) rows: &'a [TextRow],
     pub(crate) is_block: bool,
 }
 
 impl<'a> TextColors<'a> {
     /// The colours of a table of this layout, of which these rows are known.
-    pub fn new(options: &'a Options, layout: &'a Layout, rows: &'a [StringRecord]) -> TextColors<'a>
+    pub fn new(options: &'a Options, layout: &'a Layout, rows: &'a [TextRow]) -> TextColors<'a>
         ensures { spec.color_in result ≡ spec.color_at options.now (plan_in layout.now).places (map fields_of rows.now) }
     {
         TextColors {

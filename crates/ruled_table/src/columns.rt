@@ -12,7 +12,7 @@ ghost use Rattle.ruled_table.specs.declared.fault.ViewFault.TheVariants.{Column}
 
 use crate::fault::ViewFault;
 use crate::numbers::are_digits;
-use csv::StringRecord;
+use ruled_row::TextRow;
 use std::alloc::{AllocError, Global};
 use std::collections::{HashMap, HashSet};
 
@@ -28,7 +28,7 @@ pub(crate) fn told_of<T: Copy>(words: &[Option<T>], column: usize) -> Option<T>
 
 /// A field of a row, or an empty text if there is none.
 #[tactic(auto, using(crate::proofs::Rulesets::fields_found))]
-pub fn field_at(fields: &StringRecord, place: usize) -> &str
+pub fn field_at(fields: &TextRow, place: usize) -> &str
     ensures { result.now ≡ slice_index_or (fields_of fields.now) place [] }
 {
     match fields.get(place) {
@@ -39,7 +39,7 @@ pub fn field_at(fields: &StringRecord, place: usize) -> &str
 
 /// The text of a row in a column: its field at the column's place, or an empty text if there is
 /// none. The column that stands for columns left out has no place, and the text `…`.
-pub(crate) fn drawn_at(fields: &StringRecord, place: Option<usize>) -> &str
+pub(crate) fn drawn_at(fields: &TextRow, place: Option<usize>) -> &str
     ensures { result.now ≡ spec.drawn_at (fields_of fields.now) place }
 {
     match place {
@@ -49,7 +49,7 @@ pub(crate) fn drawn_at(fields: &StringRecord, place: Option<usize>) -> &str
 }
 
 // The first column of each name.
-fn first_columns(alloc: Global, header: &StringRecord) -> Result<HashMap<&str, usize>, AllocError>
+fn first_columns(alloc: Global, header: &TextRow) -> Result<HashMap<&str, usize>, AllocError>
     ensures { IfOk result (spec.HasFirst (fields_of header.now)) }
 {
     let mut first = HashMap::with_capacity(alloc, header.len())?;
@@ -60,7 +60,7 @@ fn first_columns(alloc: Global, header: &StringRecord) -> Result<HashMap<&str, u
 }
 
 // The first column of this name.
-fn column_of(header: &StringRecord, first: &HashMap<&str, usize>, name: &str) -> Option<usize>
+fn column_of(header: &TextRow, first: &HashMap<&str, usize>, name: &str) -> Option<usize>
     requires { spec.HasFirst (fields_of header.now) first.now }
     ensures { result ≡ spec.column_of (fields_of header.now) name.now }
 {
@@ -158,7 +158,7 @@ fn fits(pattern: &str, name: &str) -> bool
 }
 
 // The columns whose names fit a pattern.
-fn fitting(alloc: Global, header: &StringRecord, pattern: &str) -> Result<Vec<usize>, AllocError>
+fn fitting(alloc: Global, header: &TextRow, pattern: &str) -> Result<Vec<usize>, AllocError>
     ensures { IfOk result (λ places. places.items ≡ spec.fitting (fields_of header.now) pattern.now) }
 {
     (0..header.len())
@@ -167,11 +167,7 @@ fn fitting(alloc: Global, header: &StringRecord, pattern: &str) -> Result<Vec<us
 }
 
 // The columns of a word without one of its name: those that fit its pattern, or those of its numbers.
-fn unnamed_columns(
-    alloc: Global,
-    header: &StringRecord,
-    word: &str,
-) -> Result<Vec<usize>, AllocError>
+fn unnamed_columns(alloc: Global, header: &TextRow, word: &str) -> Result<Vec<usize>, AllocError>
     ensures { IfOk result (λ places. places.items ≡ spec.unnamed_columns (fields_of header.now) word.now) }
 {
     match pattern_of(word) {
@@ -183,7 +179,7 @@ fn unnamed_columns(
 // The columns of a word: the first one of this name, or else those that it describes.
 fn columns_of(
     alloc: Global,
-    header: &StringRecord,
+    header: &TextRow,
     first: &HashMap<&str, usize>,
     word: &str,
 ) -> Result<Vec<usize>, AllocError>
@@ -199,7 +195,7 @@ fn columns_of(
 /// The first column of those that a word means, if it means any.
 pub(crate) fn first_meant(
     alloc: Global,
-    header: &StringRecord,
+    header: &TextRow,
     word: &str,
 ) -> Result<Option<usize>, AllocError>
     ensures { IfOk result (λ column. column ≡ spec.first_meant (fields_of header.now) word.now) }
@@ -210,11 +206,7 @@ pub(crate) fn first_meant(
 }
 
 // The word after a `!`, if it leaves columns out.
-fn excluded<'a>(
-    header: &StringRecord,
-    first: &HashMap<&str, usize>,
-    word: &'a str,
-) -> Option<&'a str>
+fn excluded<'a>(header: &TextRow, first: &HashMap<&str, usize>, word: &'a str) -> Option<&'a str>
     requires { spec.HasFirst (fields_of header.now) first.now }
     ensures { option_map (λ it. it.now) result ≡ spec.excluded (fields_of header.now) word.now }
 {
@@ -263,7 +255,7 @@ impl Choice {
     fn add(
         &mut self,
         alloc: Global,
-        header: &StringRecord,
+        header: &TextRow,
         first: &HashMap<&str, usize>,
         word: &str,
     ) -> Result<bool, AllocError>
@@ -302,7 +294,7 @@ impl Choice {
 fn choice_in(
     alloc: Global,
     words: &[String],
-    header: &StringRecord,
+    header: &TextRow,
     first: &HashMap<&str, usize>,
 ) -> Result<Choice, ViewFault>
     requires { spec.HasFirst (fields_of header.now) first.now }
@@ -334,7 +326,7 @@ fn all_columns(alloc: Global, count: usize) -> Result<Vec<Option<usize>>, AllocE
 fn columns_in(
     alloc: Global,
     words: &[String],
-    header: &StringRecord,
+    header: &TextRow,
 ) -> Result<Vec<Option<usize>>, ViewFault>
     ensures places { IfOk result (λ places. places.items ≡ map Some (spec.columns_in words.now (fields_of header.now))) }
     ensures found { OnOk result (spec.missing_word words.now (fields_of header.now) ≡ None) }
@@ -352,7 +344,7 @@ fn columns_in(
 fn places_in(
     alloc: Global,
     words: &[String],
-    header: &StringRecord,
+    header: &TextRow,
 ) -> Result<Vec<Option<usize>>, ViewFault>
     ensures places { IfOk result (λ places. places.items ≡ map Some (spec.columns_in words.now (fields_of header.now))) }
     ensures fault { Tells (option_map Column (option_or (spec.missing_word words.now (fields_of header.now)) (spec.last_word words.now (fields_of header.now)))) result }
@@ -369,7 +361,7 @@ fn places_in(
 pub fn places_of(
     alloc: Global,
     words: &[String],
-    rows: &[StringRecord],
+    rows: &[TextRow],
 ) -> Result<Vec<Option<usize>>, ViewFault>
     ensures places { IfOk result (λ places. places.items ≡ spec.places_of words.now (map fields_of rows.now)) }
     ensures fault { Tells (spec.column_fault words.now (map fields_of rows.now)) result }

@@ -17,10 +17,10 @@ use crate::options::{Options, Vertical};
 use crate::points::{Extent, extents_of, fields_in, ruler_of};
 use crate::rows::{all_stand, shown_records};
 use crate::widths::{first_config, sizes_of_rows};
-use csv::StringRecord;
 use pg_config::SpannedConfig;
 use pg_layout::ConstantDimension;
 use pg_picture::fits::full_width;
+use ruled_row::TextRow;
 use std::alloc::Global;
 use std::marker::Model;
 
@@ -50,14 +50,14 @@ impl Model for Layout {
 }
 
 // The rows above the ruler.
-fn above_ruler(measured: &[StringRecord]) -> &[StringRecord]
+fn above_ruler(measured: &[TextRow]) -> &[TextRow]
     ensures { result.now ≡ spec.but_last measured.now }
 {
     &measured[..measured.len().saturating_sub(1)]
 }
 
 // Whether each field of each of these rows is shown as it stands.
-fn rows_stand(options: &Options, rows: &[StringRecord]) -> bool
+fn rows_stand(options: &Options, rows: &[TextRow]) -> bool
     ensures { result ≡ true → map (map (shown_text options.now)) (map fields_of rows.now) ≡ map fields_of rows.now }
 {
     for fields in rows {
@@ -69,7 +69,7 @@ fn rows_stand(options: &Options, rows: &[StringRecord]) -> bool
 }
 
 // So many first rows, or all.
-fn first_of(rows: &[StringRecord], count: usize) -> &[StringRecord]
+fn first_of(rows: &[TextRow], count: usize) -> &[TextRow]
     ensures { result.now ≡ take count rows.now }
 {
     match rows.get(..count) {
@@ -89,7 +89,7 @@ impl Layout {
         alloc: Global,
         options: &Options,
         count: usize,
-        rows: &mut Vec<StringRecord>,
+        rows: &mut Vec<TextRow>,
     ) -> Result<Layout, ViewFault>
         ensures layout { IfOk result (λ layout. plan_in layout ≡ spec.layout_of options.now (take count (map fields_of rows.old.items))) }
         ensures rows { map fields_of rows.new.items ≡ map fields_of rows.old.items }
@@ -137,7 +137,7 @@ impl Layout {
         alloc: Global,
         options: &Options,
         count: usize,
-        rows: &mut Vec<StringRecord>,
+        rows: &mut Vec<TextRow>,
     ) -> Result<Layout, ViewFault>
         requires { map (map (shown_text options.now)) (map fields_of (take count rows.old.items)) ≡ map fields_of (take count rows.old.items) }
         ensures layout { IfOk result (λ layout. plan_in layout ≡ spec.layout_of options.now (map fields_of (take count rows.old.items))) }
@@ -160,11 +160,7 @@ impl Layout {
     }
 
     // The layout of these rows, by copies of them.
-    fn of_copies(
-        alloc: Global,
-        options: &Options,
-        first: &[StringRecord],
-    ) -> Result<Layout, ViewFault>
+    fn of_copies(alloc: Global, options: &Options, first: &[TextRow]) -> Result<Layout, ViewFault>
         ensures layout { IfOk result (λ layout. plan_in layout ≡ spec.layout_of options.now (map fields_of first.now)) }
         ensures fault { Tells (spec.layout_fault options.now (map fields_of first.now)) result }
     {
@@ -188,7 +184,7 @@ impl Layout {
         options: &Options,
         mut places: Vec<Option<usize>>,
         extents: Vec<Extent>,
-        measured: &[StringRecord],
+        measured: &[TextRow],
     ) -> Result<Layout, ViewFault>
         ensures layout { IfOk result (λ layout. plan_in layout ≡ spec.layout_by options.now places.items (texts_at places.items measured.now) extents.items) }
         ensures fault { Tells (spec.sizes_fault_by options.now places.items (texts_at places.items measured.now)) result }
@@ -222,7 +218,7 @@ impl Layout {
         places: Vec<Option<usize>>,
         extents: Vec<Extent>,
         note: String,
-        measured: &[StringRecord],
+        measured: &[TextRow],
     ) -> Result<Layout, ViewFault>
         ensures layout { IfOk result (λ layout. plan_in layout ≡ spec.plan_by options.now extents.items places.items (string_bytes note) (texts_at places.items measured.now)) }
         ensures fault { Tells (spec.plan_fault options.now (texts_at places.items measured.now)) result }

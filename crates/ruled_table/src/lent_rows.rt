@@ -7,18 +7,14 @@ ghost use Rattle.pg_layout.specs.Records.{columns_of, text_at};
 ghost use Rattle.ruled_table.specs.LentRows.{fields_at, texts_of};
 
 use crate::columns::drawn_at;
-use csv::StringRecord;
 use pg_layout::{
     ExactRecords, PeekableRecords, Position, Records, count_lines, get_line, get_line_width,
     get_text_width,
 };
+use ruled_row::TextRow;
 
 /// The text of a row in a column, if each has a place, or an empty text if there is none.
-pub(crate) fn text_in<'a>(
-    fields: &'a StringRecord,
-    places: &[Option<usize>],
-    column: usize,
-) -> &'a str
+pub(crate) fn text_in<'a>(fields: &'a TextRow, places: &[Option<usize>], column: usize) -> &'a str
     ensures { result.now ≡ slice_index_or (fields_at places.now (fields_of fields.now)) column [] }
 {
     match places.get(column) {
@@ -30,7 +26,7 @@ pub(crate) fn text_in<'a>(
 /// The remaining texts of a row.
 #[derive(Drop)]
 pub struct LentColumns<'a> {
-    fields: &'a StringRecord,
+    fields: &'a TextRow,
     places: &'a [Option<usize>],
 }
 
@@ -52,7 +48,7 @@ impl<'a> Iterator for LentColumns<'a> {
 #[derive(Clone, Copy)]
 pub struct LentRows<'a> {
     /// The records.
-    pub records: &'a [StringRecord],
+    pub records: &'a [TextRow],
     /// The place of each column's field in its record; `None` in the column of `…`.
     pub places: &'a [Option<usize>],
 }

@@ -11,7 +11,7 @@ use crate::columns::field_at;
 use crate::numbers::{digits_of, exponent, is_negative, is_number, scale, zeros_behind};
 use crate::options::Options;
 use crate::sides::{is_missing, is_numeric_text};
-use csv::StringRecord;
+use ruled_row::TextRow;
 use std::alloc::{AllocError, Global};
 use std::cmp::Ordering;
 
@@ -32,7 +32,7 @@ struct Rank {
 #[derive(Drop)]
 struct RankedRow {
     rank: Rank,
-    fields: StringRecord,
+    fields: TextRow,
 }
 
 // How many of so many digits of a number are before its point.
@@ -158,7 +158,7 @@ fn ranked(
     options: &Options,
     is_numeric: bool,
     column: usize,
-    rows: Vec<StringRecord>,
+    rows: Vec<TextRow>,
 ) -> Result<Vec<RankedRow>, AllocError>
     ensures { IfOk result (λ ranked. map spec.row_in ranked.items ≡ map (spec.with_rank options.now is_numeric column) (map fields_of rows.items)) }
 {
@@ -179,7 +179,7 @@ fn sort_ranked(is_descending: bool, rows: &mut Vec<RankedRow>) -> Result<(), All
 }
 
 // Rows without their ranks.
-fn unranked(alloc: Global, rows: Vec<RankedRow>) -> Result<Vec<StringRecord>, AllocError>
+fn unranked(alloc: Global, rows: Vec<RankedRow>) -> Result<Vec<TextRow>, AllocError>
     ensures { IfOk result (λ unranked. unranked.items ≡ map (λ row. row.fields) rows.items) }
 {
     rows.into_iter()
@@ -188,7 +188,7 @@ fn unranked(alloc: Global, rows: Vec<RankedRow>) -> Result<Vec<StringRecord>, Al
 }
 
 // Whether each row has a number in the column, or a text that counts as blank.
-fn have_numbers(options: &Options, rows: &[StringRecord], column: usize) -> bool
+fn have_numbers(options: &Options, rows: &[TextRow], column: usize) -> bool
     ensures { result ≡ list_all (λ fields. is_numeric_text options.now (slice_index_or (fields_of fields) column [])) rows.now }
 {
     rows.iter().all(|fields| is_numeric_text(options, field_at(fields, column)))
@@ -200,8 +200,8 @@ fn in_order(
     options: &Options,
     is_descending: bool,
     column: usize,
-    rows: Vec<StringRecord>,
-) -> Result<Vec<StringRecord>, AllocError>
+    rows: Vec<TextRow>,
+) -> Result<Vec<TextRow>, AllocError>
     ensures { IfOk result (λ ordered. map fields_of ordered.items ≡ spec.in_order options.now is_descending column (map fields_of rows.items)) }
 {
     let is_numeric = have_numbers(options, &rows, column);
@@ -216,8 +216,8 @@ pub(crate) fn sorted(
     options: &Options,
     is_descending: bool,
     column: usize,
-    rows: Vec<StringRecord>,
-) -> Result<Vec<StringRecord>, AllocError>
+    rows: Vec<TextRow>,
+) -> Result<Vec<TextRow>, AllocError>
     requires { 0 < length rows.items }
     ensures { IfOk result (λ sorted. map fields_of sorted.items ≡ spec.sorted options.now is_descending column (map fields_of rows.items)) }
 {

@@ -7,11 +7,11 @@ ghost use Rattle.ruled_table.specs.LentRows.{pairs_in, texts_left};
 
 use crate::columns::drawn_at;
 use crate::lent_rows::text_in;
-use csv::StringRecord;
 use pg_layout::{
     ExactRecords, PeekableRecords, Position, Records, count_lines, get_line, get_line_width,
     get_text_width,
 };
+use ruled_row::TextRow;
 
 /// The remaining texts of a row: its name, and the text beside it.
 #[derive(Drop)]
@@ -39,9 +39,9 @@ impl<'a> Iterator for PairTexts<'a> {
 #[derive(Clone, Copy)]
 pub struct PairedRows<'a> {
     /// The names.
-    pub names: &'a StringRecord,
+    pub names: &'a TextRow,
     /// The record.
-    pub fields: &'a StringRecord,
+    pub fields: &'a TextRow,
     /// The place of each row's field in both; `None` in the row of `…`.
     pub places: &'a [Option<usize>],
 }

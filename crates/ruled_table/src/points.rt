@@ -11,7 +11,7 @@ use crate::lent_rows::{LentRows, text_in};
 use crate::numbers::is_number;
 use crate::options::{Options, Side};
 use crate::sides::{body_of, is_numeric};
-use csv::StringRecord;
+use ruled_row::TextRow;
 use std::alloc::{AllocError, Global};
 
 /// How many characters the numbers of a field take at most in front of their points, and from these on.
@@ -118,7 +118,7 @@ fn field_extent(options: &Options, rows: LentRows<'_>, field: usize) -> Extent
 }
 
 /// How many fields the first row has.
-pub(crate) fn fields_in(rows: &[StringRecord]) -> usize
+pub(crate) fn fields_in(rows: &[TextRow]) -> usize
     ensures { result ≡ length (slice_index_or (map fields_of rows.now) 0 []) }
 {
     match rows {
@@ -189,10 +189,10 @@ pub(crate) fn ruler_of(
     alloc: Global,
     extents: &[Extent],
     fields: usize,
-) -> Result<StringRecord, AllocError>
+) -> Result<TextRow, AllocError>
     ensures { IfOk result (λ ruler. fields_of ruler ≡ spec.ruler_of extents.now fields) }
 {
-    let mut ruler = StringRecord::new(alloc);
+    let mut ruler = TextRow::new(alloc);
     for field in 0..fields {
         let text = widest_number(alloc, extent_at(extents, field))?;
         ruler.push_field(text.as_str())?;
@@ -217,11 +217,11 @@ fn pointed(alloc: Global, rest: usize, text: &str) -> Result<String, AllocError>
 pub(crate) fn pointed_record(
     alloc: Global,
     extents: &[Extent],
-    fields: &StringRecord,
-) -> Result<StringRecord, AllocError>
+    fields: &TextRow,
+) -> Result<TextRow, AllocError>
     ensures { IfOk result (λ made. fields_of made ≡ spec.pointed_fields extents.now (fields_of fields.now)) }
 {
-    let mut made = StringRecord::new(alloc);
+    let mut made = TextRow::new(alloc);
     for field in 0..fields.len() {
         let rest = extent_at(extents, field).rest;
         let text = pointed(alloc, rest, field_at(fields, field))?;

@@ -15,10 +15,10 @@ use crate::lent_rows::{LentRows, text_in};
 use crate::options::Options;
 use crate::rows::has_plain_fields;
 use crate::sides::{body_of, is_numeric};
-use csv::StringRecord;
 use pg_config::SpannedConfig;
 use pg_fit::{ColumnRange, narrow};
 use pg_layout::{Records, get_text_width};
+use ruled_row::TextRow;
 use std::alloc::{AllocError, Global};
 
 /// How many terminal columns the widest text of a column takes.
@@ -34,7 +34,7 @@ pub(crate) fn widest_text(rows: LentRows<'_>, column: usize) -> usize
 
 // How many terminal columns the text of a row in a column takes: a plain one as many as it has bytes.
 #[inline(always)]
-fn width_at(is_plain: bool, fields: &StringRecord, place: Option<usize>) -> usize
+fn width_at(is_plain: bool, fields: &TextRow, place: Option<usize>) -> usize
     requires { is_plain ≡ true → list_all (list_all is_plain_byte) (fields_of fields.now) ≡ true }
     ensures { result ≡ text_width_of (drawn_at (fields_of fields.now) place) }
 {
@@ -45,7 +45,7 @@ fn width_at(is_plain: bool, fields: &StringRecord, place: Option<usize>) -> usiz
 }
 
 // Raises the widths of columns to those of the texts of a row.
-fn raise_to_row(fields: &StringRecord, places: &[Option<usize>], widths: &mut [usize])
+fn raise_to_row(fields: &TextRow, places: &[Option<usize>], widths: &mut [usize])
     requires { length widths.old ≡ length places.now }
     ensures same { length widths.new ≡ length widths.old }
     ensures raised { (k : ℕ) → k < length places.now → slice_index widths.new k ≡ max (slice_index widths.old k) (text_width_of (slice_index_or (fields_at places.now (fields_of fields.now)) k [])) }

@@ -13,12 +13,11 @@ use crate::columns::field_at;
 use crate::escapes::{escaped, is_plain_text};
 use crate::numbers::GAP;
 use crate::options::Options;
-use csv::StringRecord;
 use pg_fit::{is_visible, visible};
 use pg_layout::is_plain;
+use ruled_row::TextRow;
 use std::alloc::{AllocError, Global};
 use std::borrow::CowStr;
-use std::str;
 
 // Whether a text is shown as it is: it is sent raw, or has no control characters.
 fn is_seen(is_raw: bool, text: &str) -> bool
@@ -76,28 +75,25 @@ pub(crate) fn stands(options: &Options, text: &str) -> bool
 }
 
 /// Whether each field of a record is a line of ASCII. All are tested at once.
-pub(crate) fn has_plain_fields(fields: &StringRecord) -> bool
+pub(crate) fn has_plain_fields(fields: &TextRow) -> bool
     ensures plain { result ≡ true → list_all (list_all is_plain_byte) (fields_of fields.now) ≡ true }
     ensures counted { length (text_of fields.now) < 2 ^ 63 }
 {
-    is_plain(fields.as_byte_record().as_slice())
+    is_plain(fields.text().as_bytes())
 }
 
 /// Whether each field of a record is a line of ASCII that is shown unchanged. All are tested at once, which costs less
 /// than a test of each.
-pub(crate) fn is_plain_record(options: &Options, fields: &StringRecord) -> bool
+pub(crate) fn is_plain_record(options: &Options, fields: &TextRow) -> bool
     ensures unchanged { result ≡ true → map (shown_text options.now) (fields_of fields.now) ≡ fields_of fields.now }
     ensures plain { result ≡ true → list_all (list_all is_plain_byte) (fields_of fields.now) ≡ true }
 {
-    // Bytes of ASCII are a text. Testing that again would cost as much as the other tests.
-    let bytes = fields.as_byte_record().as_slice();
-    !options.is_markdown
-        && is_plain(bytes)
-        && is_visible(unsafe { str::from_utf8_unchecked(bytes) })
+    let text = fields.text();
+    !options.is_markdown && is_plain(text.as_bytes()) && is_visible(text)
 }
 
 // Whether each field of a record is shown unchanged, one after another.
-fn each_stands(options: &Options, fields: &StringRecord) -> bool
+fn each_stands(options: &Options, fields: &TextRow) -> bool
     ensures { result ≡ true → map (shown_text options.now) (fields_of fields.now) ≡ fields_of fields.now }
 {
     for place in 0..fields.len() {
@@ -109,7 +105,7 @@ fn each_stands(options: &Options, fields: &StringRecord) -> bool
 }
 
 /// Whether each field of a record is shown unchanged.
-pub(crate) fn all_stand(options: &Options, fields: &StringRecord) -> bool
+pub(crate) fn all_stand(options: &Options, fields: &TextRow) -> bool
     ensures { result ≡ true → map (shown_text options.now) (fields_of fields.now) ≡ fields_of fields.now }
 {
     is_plain_record(options, fields) || each_stands(options, fields)
@@ -119,11 +115,11 @@ pub(crate) fn all_stand(options: &Options, fields: &StringRecord) -> bool
 pub(crate) fn made_record(
     alloc: Global,
     options: &Options,
-    fields: &StringRecord,
-) -> Result<StringRecord, AllocError>
+    fields: &TextRow,
+) -> Result<TextRow, AllocError>
     ensures { IfOk result (λ shown. fields_of shown ≡ map (shown_text options.now) (fields_of fields.now)) }
 {
-    let mut shown = StringRecord::new(alloc);
+    let mut shown = TextRow::new(alloc);
     for place in 0..fields.len() {
         let text = shown_text(alloc, options, field_at(fields, place))?;
         shown.push_field(text.as_str())?;
@@ -132,11 +128,7 @@ pub(crate) fn made_record(
 }
 
 // A record of the shown texts of a record's fields: itself, if each is unchanged.
-fn shown_record(
-    alloc: Global,
-    options: &Options,
-    fields: StringRecord,
-) -> Result<StringRecord, AllocError>
+fn shown_record(alloc: Global, options: &Options, fields: TextRow) -> Result<TextRow, AllocError>
     ensures { IfOk result (λ shown. fields_of shown ≡ map (shown_text options.now) (fields_of fields)) }
 {
     if all_stand(options, &fields) {
@@ -149,8 +141,8 @@ fn shown_record(
 pub fn shown_records(
     alloc: Global,
     options: &Options,
-    records: Vec<StringRecord>,
-) -> Result<Vec<StringRecord>, AllocError>
+    records: Vec<TextRow>,
+) -> Result<Vec<TextRow>, AllocError>
     ensures { IfOk result (λ rows. map fields_of rows.items ≡ map (map (shown_text options.now)) (map fields_of records.items)) }
 {
     let mut rows = Vec::with_capacity(alloc, records.len())?;
@@ -170,7 +162,7 @@ pub fn limit_of(options: &Options) -> Option<usize>
 }
 
 /// The rows that are shown.
-pub(crate) fn heads(options: &Options, rows: Vec<StringRecord>) -> Vec<StringRecord>
+pub(crate) fn heads(options: &Options, rows: Vec<TextRow>) -> Vec<TextRow>
     ensures { map fields_of result.items ≡ heads options.now (map fields_of rows.items) }
 {
     let mut heads = rows;
@@ -181,7 +173,7 @@ pub(crate) fn heads(options: &Options, rows: Vec<StringRecord>) -> Vec<StringRec
 }
 
 /// Row 0, and the last rows below it that are shown.
-pub(crate) fn tails(options: &Options, rows: Vec<StringRecord>) -> Vec<StringRecord>
+pub(crate) fn tails(options: &Options, rows: Vec<TextRow>) -> Vec<TextRow>
     ensures { map fields_of result.items ≡ tails options.now (map fields_of rows.items) }
 {
     let mut tails = rows;
@@ -195,10 +187,10 @@ pub(crate) fn tails(options: &Options, rows: Vec<StringRecord>) -> Vec<StringRec
 }
 
 // A row of `⋮`, as long as this one.
-fn gap_of(alloc: Global, row: &StringRecord) -> Result<StringRecord, AllocError>
+fn gap_of(alloc: Global, row: &TextRow) -> Result<TextRow, AllocError>
     ensures { IfOk result (λ gap. fields_of gap ≡ gap_of (fields_of row.now)) }
 {
-    let mut gap = StringRecord::new(alloc);
+    let mut gap = TextRow::new(alloc);
     for place in 0..row.len() {
         gap.push_field(GAP)?;
     }
@@ -206,11 +198,7 @@ fn gap_of(alloc: Global, row: &StringRecord) -> Result<StringRecord, AllocError>
 }
 
 // Row 0 and so many rows at both ends of those below it, with a row of `⋮` in place of the others.
-fn both_ends(
-    alloc: Global,
-    count: usize,
-    rows: Vec<StringRecord>,
-) -> Result<Vec<StringRecord>, AllocError>
+fn both_ends(alloc: Global, count: usize, rows: Vec<TextRow>) -> Result<Vec<TextRow>, AllocError>
     requires more { 2 * count + 1 < length rows.items }
     ensures { IfOk result (λ ends. map fields_of ends.items ≡ both_ends count (map fields_of rows.items)) }
 {
@@ -227,8 +215,8 @@ fn both_ends(
 pub(crate) fn ends(
     alloc: Global,
     options: &Options,
-    shown: Vec<StringRecord>,
-) -> Result<Vec<StringRecord>, AllocError>
+    shown: Vec<TextRow>,
+) -> Result<Vec<TextRow>, AllocError>
     ensures { IfOk result (λ ends. map fields_of ends.items ≡ ends_of options.now.ends (map fields_of shown.items)) }
 {
     match options.ends {

@@ -11,9 +11,9 @@ use crate::columns::told_of;
 use crate::lent_rows::{LentRows, text_in};
 use crate::numbers::{GAP, is_blank, is_number};
 use crate::options::{Options, Side};
-use csv::StringRecord;
 use pg_config::SpannedConfig;
 use pg_layout::{AlignmentHorizontal, Entity, Records};
+use ruled_row::TextRow;
 use std::alloc::AllocError;
 
 /// Whether a text counts as blank, since it is listed.
@@ -31,12 +31,7 @@ pub(crate) fn is_numeric_text(options: &Options, text: &str) -> bool
 }
 
 // Whether the text of a row in this column is one.
-fn has_number(
-    options: &Options,
-    fields: &StringRecord,
-    places: &[Option<usize>],
-    column: usize,
-) -> bool
+fn has_number(options: &Options, fields: &TextRow, places: &[Option<usize>], column: usize) -> bool
     ensures { result ≡ spec.is_numeric_text options.now (slice_index_or (fields_at places.now (fields_of fields.now)) column []) }
 {
     is_numeric_text(options, text_in(fields, places, column))
@@ -45,7 +40,7 @@ fn has_number(
 // Whether each row has a number in the column, or a text that counts as blank.
 fn have_numbers(
     options: &Options,
-    records: &[StringRecord],
+    records: &[TextRow],
     places: &[Option<usize>],
     column: usize,
 ) -> bool
@@ -65,7 +60,7 @@ pub(crate) fn is_numeric(options: &Options, rows: LentRows<'_>, column: usize) -
 }
 
 /// The records below a header.
-pub(crate) fn body_of(has_header: bool, records: &[StringRecord]) -> &[StringRecord]
+pub(crate) fn body_of(has_header: bool, records: &[TextRow]) -> &[TextRow]
     ensures { result.now ≡ spec.body_of has_header records.now }
 {
     match records {

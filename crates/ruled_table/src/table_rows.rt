@@ -28,8 +28,8 @@ use crate::points::pointed_record;
 use crate::row_lines::RowLines;
 use crate::rows::{is_plain_record, shown_text, stands};
 use crate::widths::{lent_within, room_of};
-use csv::StringRecord;
 use pg_layout::{ConstantDimension, get_text_width};
+use ruled_row::TextRow;
 use std::alloc::{AllocError, Global};
 use std::borrow::CowStr;
 
@@ -84,7 +84,7 @@ fn cells_shown<'a>(
     options: &Options,
     places: &[Option<usize>],
     widths: &ConstantDimension,
-    fields: &'a StringRecord,
+    fields: &'a TextRow,
 ) -> Result<Vec<CowStr<'a>>, AllocError>
     ensures { IfOk result (λ cells. map cow_str_bytes cells.items ≡ spec.row_within options.now.bounds.overflow (spec.widths_in widths.now) (shown_row options.now places.now (fields_of fields.now))) }
 {
@@ -99,7 +99,7 @@ fn cells_shown<'a>(
 const FEW: usize = 16;
 
 // The text that is shown of a plain record in a column, if it has room there.
-fn plain_cell<'a>(room: usize, fields: &'a StringRecord, place: Option<usize>) -> Option<&'a str>
+fn plain_cell<'a>(room: usize, fields: &'a TextRow, place: Option<usize>) -> Option<&'a str>
     ensures cell { (options : Options) → map (shown_text options) (fields_of fields.now) ≡ fields_of fields.now → list_all (list_all is_plain_byte) (fields_of fields.now) ≡ true
         → IfSome result (λ cell. cell.now ≡ spec.text_within options.bounds.overflow room (shown_text options (drawn_at (fields_of fields.now) place))) }
     ensures single { list_all (list_all is_plain_byte) (fields_of fields.now) ≡ true → IfSome result (λ cell. length (lines_of cell.now) ≡ 1) }
@@ -113,7 +113,7 @@ fn fill_plain<'a>(
     options: &Options,
     places: &[Option<usize>],
     widths: &ConstantDimension,
-    fields: &'a StringRecord,
+    fields: &'a TextRow,
     cells: &mut [&'a str],
 ) -> bool
     ensures few { result ≡ true → length places.now ≤ length cells.new }
@@ -156,7 +156,7 @@ impl<'a> TableRows<'a> {
     }
 
     // Appends the lines of a row, of which these are the fields with spaces behind numbers.
-    fn push_pointed(&mut self, fields: &StringRecord, buf: &mut String) -> Result<(), ViewFault>
+    fn push_pointed(&mut self, fields: &TextRow, buf: &mut String) -> Result<(), ViewFault>
         ensures lines { (options : Options) (plan : Plan) (rows : List (List Text)) (row : List Text) → HasAppended options plan rows self.old → fields_of fields.now ≡ pointed_row plan.extents row
             → OnOk result (GrowsTo (begun_text options plan rows) (begun_text options plan (rows ++ row ∷ [])) (string_bytes buf.old) (string_bytes buf.new)) }
         ensures after { (options : Options) (plan : Plan) (rows : List (List Text)) (row : List Text) → HasAppended options plan rows self.old → fields_of fields.now ≡ pointed_row plan.extents row
@@ -177,7 +177,7 @@ impl<'a> TableRows<'a> {
     }
 
     // Appends the lines of a row.
-    fn push_row(&mut self, fields: &StringRecord, buf: &mut String) -> Result<(), ViewFault>
+    fn push_row(&mut self, fields: &TextRow, buf: &mut String) -> Result<(), ViewFault>
         ensures lines { (options : Options) (plan : Plan) (rows : List (List Text)) → HasAppended options plan rows self.old
             → OnOk result (GrowsTo (begun_text options plan rows) (begun_text options plan (rows ++ fields_of fields.now ∷ [])) (string_bytes buf.old) (string_bytes buf.new)) }
         ensures after { (options : Options) (plan : Plan) (rows : List (List Text)) → HasAppended options plan rows self.old
@@ -197,7 +197,7 @@ impl<'a> TableRows<'a> {
     /// Appends the lines of a row, each with a line feed after it.
     ///
     /// `ViewFault::Totals` means that its lines can't be counted below those above it.
-    pub fn push(&mut self, fields: &StringRecord, buf: &mut String) -> Result<(), ViewFault>
+    pub fn push(&mut self, fields: &TextRow, buf: &mut String) -> Result<(), ViewFault>
         ensures lines { (options : Options) (plan : Plan) (rows : List (List Text)) → HasAppended options plan rows self.old
             → OnOk result (GrowsTo (begun_text options plan rows) (begun_text options plan (rows ++ fields_of fields.now ∷ [])) (string_bytes buf.old) (string_bytes buf.new)) }
         ensures after { (options : Options) (plan : Plan) (rows : List (List Text)) → HasAppended options plan rows self.old

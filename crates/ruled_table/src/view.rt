@@ -11,14 +11,14 @@ use crate::fault::ViewFault;
 use crate::options::Options;
 use crate::rows::{ends, heads, tails};
 use crate::sides::body_of;
-use csv::StringRecord;
+use ruled_row::TextRow;
 use std::alloc::{AllocError, Global};
 
 /// The rows that are shown of an input.
 #[derive(Drop)]
 pub struct Chosen {
     /// The rows, of which the first is row 0.
-    pub rows: Vec<StringRecord>,
+    pub rows: Vec<TextRow>,
     /// The line below their table that counts rows and columns, with a line feed, or nothing.
     pub count: String,
 }
@@ -43,7 +43,7 @@ fn count_of(alloc: Global, rows: usize, columns: usize) -> Result<String, AllocE
 fn count_text(
     alloc: Global,
     options: &Options,
-    rows: &[StringRecord],
+    rows: &[TextRow],
     columns: usize,
 ) -> Result<String, AllocError>
     ensures { IfOk result (λ text. string_bytes text ≡ spec.counted_by options.now (map fields_of rows.now) columns) }
@@ -61,7 +61,7 @@ fn count_text(
 pub fn chosen_rows(
     alloc: Global,
     options: &Options,
-    rows: Vec<StringRecord>,
+    rows: Vec<TextRow>,
 ) -> Result<Chosen, ViewFault>
     ensures rows { IfOk result (λ chosen. map fields_of chosen.rows.items ≡ spec.chosen_rows options.now (map fields_of rows.items)) }
     ensures count { IfOk result (λ chosen. string_bytes chosen.count ≡ spec.count_text options.now (map fields_of rows.items)) }

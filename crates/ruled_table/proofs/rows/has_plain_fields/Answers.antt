@@ -8,5 +8,5 @@ use Rattle.ruled_table.proofs.rows.has_plain_fields.Goals as goal
 pub returns-clause-plain : goal.returns-clause-plain
 returns-clause-plain c = λ plain.
     let row : Row = c.args.fields.now in
-    let same : c.as_slice.result.now ≡ row.bytes = search rules in
+    let same : c.as_bytes.result.now ≡ row.bytes = search rules in
     fields-pass is_plain_byte 0 row.ends row.bytes (ap (list_all is_plain_byte) (sym same) ∙ sym c.is_plain.ensures ∙ plain)

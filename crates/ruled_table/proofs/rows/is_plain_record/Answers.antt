@@ -1,26 +1,17 @@
-use Rattle.std.proofs.Common.{◌≡◌, ◌∙◌, true, false, IsUtf8, not, chars, sym, ap, subst, rules}
+use Rattle.std.proofs.Common.{◌≡◌, ◌∙◌, true, false, not, chars, sym, ap, rules}
 use Rattle.std.specs.List.{list_all}
-use Rattle.std.proofs.lemmas.Str.{IsUtf8-from_ascii}
 use Rattle.csv.specs.Records.{Row}
 use Rattle.pg_layout.specs.Text.{Text, is_plain_byte}
 use Rattle.pg_fit.specs.Controls.{is_control}
-use Rattle.ruled_table.proofs.PlainRecords.{fields-pass, plain-ascii, plain-fields-stand}
+use Rattle.ruled_table.proofs.PlainRecords.{fields-pass, plain-fields-stand}
 use Rattle.ruled_table.proofs.rows.is_plain_record.Goals as goal
-
-pub from_utf8_unchecked-requires : goal.from_utf8_unchecked-requires
-from_utf8_unchecked-requires c =
-    let row : Row = c.args.fields.now in
-    let same : c.as_slice-bytes.result.now ≡ row.bytes = search rules in
-    let plain : list_all is_plain_byte row.bytes ≡ true = search rules in
-    subst (λ (t : Text). IsUtf8 t) (sym same) (IsUtf8-from_ascii row.bytes (plain-ascii row.bytes plain))
 
 pub returns-then-is_plain-clause-unchanged : goal.returns-then-is_plain-clause-unchanged
 returns-then-is_plain-clause-unchanged c = λ seen.
     let row : Row = c.args.fields.now in
     let none : c.args.options.now.is_markdown ≡ false = search rules in
-    let same : c.as_slice-bytes.result.now ≡ row.bytes = search rules in
     let plain : list_all is_plain_byte row.bytes ≡ true = search rules in
-    let text : c.from_utf8_unchecked.result.now ≡ row.bytes = c.from_utf8_unchecked.ensures ∙ same in
+    let text : c.text-text.result.now ≡ row.bytes = c.text-text.ensures in
     let clear : list_all (λ c. not (is_control c)) (chars row.bytes) ≡ true =
     ap (λ (t : Text). list_all (λ c. not (is_control c)) (chars t)) (sym text) ∙ sym c.is_visible.ensures ∙ seen
     in

@@ -27,8 +27,8 @@ returns-in_err-fields-clause-rows c =
     let read = subst (λ (b : List ℕ). Gives {U = Unit {0}} (record_of file row) left c.read_record.new.self.left b bytes (Ok c.in_ok-read_record.field-0)) c.clear.ensures.items c.in_ok-read_record.ensures.bytes in
     let read_values : c.decode_into.new.row ≡ decode bytes = c.in_ok-decode_into.ensures ∙ rw (c.clear-2.ensures, widened (decode c.deref.result.now), c.deref.ensures.value) in
     let values : c.to_utf8.new.values ≡ values_of file bytes = c.in_ok-to_utf8.ensures ∙ ap₂ in_utf8 (c.encoding-encoding.ensures ∙ ap (λ (it : File). encoding_of it.bytes.now) c.read_record.ensures.file) read_values in
-    gives_wrong file definition row left c.read_record.new.self.left c.in_ok-read_record.field-0 bytes (fields_of c.in_ok-texts.texts) rows rows c.from_residual-in_err-fields.result c.in_err-fields.field-0.0 _
-    c.from_residual-in_err-fields.ensures.1 c.in_err-fields.ensures.place read (ap fields_of c.in_ok-texts.ensures.cases ∙ c.in_ok-read_texts.ensures ∙ ap (texts_in definition row.key) values) c.in_err-fields.ensures.fault
+    gives_wrong file definition row left c.read_record.new.self.left c.in_ok-read_record.field-0 bytes (fields_of c.read_texts.new.texts) rows rows c.from_residual-in_err-fields.result c.in_err-fields.field-0.0 _
+    c.from_residual-in_err-fields.ensures.1 c.in_err-fields.ensures.place read (c.in_ok-read_texts.ensures ∙ ap (texts_in definition row.key) values) c.in_err-fields.ensures.fault
 
 pub returns-clause-rows : goal.returns-clause-rows
 returns-clause-rows c =
@@ -42,7 +42,7 @@ returns-clause-rows c =
     let read_values : c.decode_into.new.row ≡ decode bytes = c.in_ok-decode_into.ensures ∙ rw (c.clear-2.ensures, widened (decode c.deref.result.now), c.deref.ensures.value) in
     let values : c.to_utf8.new.values ≡ values_of file bytes = c.in_ok-to_utf8.ensures ∙ ap₂ in_utf8 (c.encoding-encoding.ensures ∙ ap (λ (it : File). encoding_of it.bytes.now) c.read_record.ensures.file) read_values in
     let added : map fields_of c.push.new.self.items ≡ map fields_of old ++ texts_in definition row.key (values_of file bytes) ∷ [] =
-    ap (map fields_of) c.in_ok-push.ensures.items ∙ map-append fields_of old (c.in_ok-fields.fields ∷ []) ∙ ap (λ (t : List (List ℕ)). map fields_of old ++ t ∷ []) (c.in_ok-fields.ensures.fields ∙ ap fields_of c.in_ok-texts.ensures.cases ∙ c.in_ok-read_texts.ensures ∙ ap (texts_in definition row.key) values) in
+    ap (map fields_of) c.in_ok-push.ensures.items ∙ map-append fields_of old (c.in_ok-fields.fields ∷ []) ∙ ap (λ (t : List (List ℕ)). map fields_of old ++ t ∷ []) (c.in_ok-fields.ensures.fields ∙ c.in_ok-read_texts.ensures ∙ ap (texts_in definition row.key) values) in
     let long : definition.least ≤ length (values_of file bytes) = subst (λ (values : Row). definition.least ≤ length values) values (omega arith) in
     gives_shown file definition row left c.read_record.new.self.left c.in_ok-read_record.field-0 c.in_ok-read_record.field-0 bytes (map fields_of old) (map fields_of c.push.new.self.items) read long added
 
