@@ -10,20 +10,17 @@ use Rattle.std.proofs.lemmas.Bool.{false≢true, true≢false}
 use Rattle.std.proofs.lemmas.List.{take-append-drop, take_more}
 use Rattle.ruled_csv.specs.Faults.{Tells, but_line, rows_fault, sound_rows, sound_rows_in}
 use Rattle.ruled_csv.specs.Inside.{Hand, Holds, Joins, Left, Scan, begins_out, empty_hand, fault_below, hand_below, hand_of, is_calm, last_row, leaves_out, left_of, lines_after, made, open_fault, row_at, scan_after, scan_from, scan_of, scan_start, with_row}
-use Rattle.ruled_csv.specs.Lines.{is_comment, line_behind}
+use Rattle.ruled_csv.specs.Quotes.{is_comment, line_behind, state_behind}
 use Rattle.ruled_csv.specs.Kept.{end_of, is_left_out, is_line_end, kept_text}
-use Rattle.ruled_csv.specs.Quotes.{state_behind}
 use Rattle.ruled_csv.specs.Reading.{AppendsRest, AppendsSome, Foretells, HasRead, OnFault}
 use Rattle.ruled_csv.specs.Rows.{ended_rows, rows_of}
 use Rattle.ruled_csv.specs.declared.fault.RowsFault.{RowsFault}
 use Rattle.ruled_csv.specs.declared.fault.RowsFault.TheVariants.{Memory}
 use Rattle.ruled_csv.specs.declared.reader.RowReader.{RowReader}
 use Rattle.ruled_csv.specs.declared.scanner.Scanner.{Scanner}
-use Rattle.ruled_csv.proofs.KeptTexts.{ReadsFirst, kept-grows, kept-is, kept-between, kept-more, kept-run, kept-still, left-more, run-none}
-use Rattle.ruled_csv.proofs.Runs.{same-scan}
+use Rattle.ruled_csv.proofs.KeptTexts.{ReadsFirst, kept-grows, kept-is, kept-between, kept-more, kept-run, kept-still, left-more, run-none, same-scan}
 use Rattle.ruled_csv.proofs.Scans.{ended-scanned, fault-stays, all-scanned, scan-append}
-use Rattle.ruled_csv.proofs.SoundRows.{ended-first, stops-at, stops-last}
-use Rattle.ruled_csv.proofs.TextFaults.{fault-found, fault-last, line-is, state-is}
+use Rattle.ruled_csv.proofs.TextFaults.{ended-first, stops-at, stops-last, fault-found, fault-last, line-is, state-is}
 use Rattle.ruled_csv.specs.declared.dialect.Dialect.{Dialect}
 
 -- ---- bytes

@@ -9,12 +9,10 @@ use Rattle.csv.specs.declared.parser.Action.TheVariants as act
 use Rattle.csv.specs.declared.parser.State.{State}
 use Rattle.csv.specs.declared.parser.State.TheVariants as st
 use Rattle.memchr.specs.Find.{is_byte3}
-use Rattle.ruled_csv.specs.Lines.{is_comment}
+use Rattle.ruled_csv.specs.Quotes.{is_comment, are_words, is_closing, is_plain, is_quoted, config_of, separator}
 use Rattle.ruled_csv.specs.Faults.{number_of, row_fault}
 use Rattle.ruled_csv.specs.Kept.{end_of, is_left_out, is_line_end}
-use Rattle.ruled_csv.specs.Quotes.{are_words, is_closing, is_plain, is_quoted, config_of, separator}
-use Rattle.ruled_csv.specs.Rows.{columns_of}
-use Rattle.ruled_csv.specs.Words.{columns_known, words_in}
+use Rattle.ruled_csv.specs.Rows.{columns_of, columns_known, words_in}
 use Rattle.ruled_csv.specs.declared.fault.RowsFault.{RowsFault}
 use Rattle.ruled_csv.specs.declared.fault.RowsFault.TheVariants.{OpenQuote, BehindQuote}
 use Rattle.ruled_csv.specs.declared.lines.Lines.{Lines}

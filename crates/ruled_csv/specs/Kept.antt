@@ -2,8 +2,7 @@
 use Rattle.std.specs.Prelude.{◌≡◌, ℕ, ◌==◌, ◌&&◌, ◌||◌, not, nat_le, Bool, true, List, [], ◌∷◌, ◌++◌, fold, if◌then◌else◌, false}
 use Rattle.std.specs.List.{flat_map}
 use Rattle.csv.specs.Machine.{ends_at_end}
-use Rattle.ruled_csv.specs.Lines.{is_comment, line_behind}
-use Rattle.ruled_csv.specs.Quotes.{state_behind}
+use Rattle.ruled_csv.specs.Quotes.{is_comment, line_behind, state_behind}
 use Rattle.ruled_csv.specs.declared.dialect.Dialect.{Dialect}
 use Rattle.ruled_csv.specs.declared.dialect.RowRules.{RowRules}
 

@@ -1,12 +1,10 @@
--- Where quotes may stand. The reading of `csv` opens a quote at the start of a field and closes it at the next one that isn't
--- doubled; a right text closes each quote, and ends the field behind it.
-use Rattle.std.specs.Prelude.{ℕ, zero, suc, ◌+◌, ◌==◌, ◌&&◌, ◌||◌, Bool, true, false, List, fold, length, take, Option, Some, None, option_map, if◌then◌else◌}
-use Rattle.std.specs.List.{find, range_with_len}
+-- The lines of bytes, and where quotes may stand in them.
+use Rattle.std.specs.Prelude.{ℕ, ◌+◌, ◌-◌, ◌^◌, min, ◌==◌, ◌&&◌, ◌||◌, not, Bool, List, ◌∷◌, false, [], Option, Some, None, zero, suc, true, fold, length, take, option_map, if◌then◌else◌}
+use Rattle.std.specs.List.{count_by, zip, find, range_with_len}
 use Rattle.std.specs.Option.{option_or}
 use Rattle.csv.specs.Machine.{step}
 use Rattle.csv.specs.declared.parser.State.{State}
 use Rattle.csv.specs.declared.parser.State.TheVariants as st
-use Rattle.ruled_csv.specs.Lines.{line_behind}
 use Rattle.ruled_csv.specs.declared.fault.RowsFault.{RowsFault}
 use Rattle.ruled_csv.specs.declared.fault.RowsFault.TheVariants.{OpenQuote, BehindQuote}
 use Rattle.ruled_csv.specs.declared.dialect.Dialect.{Dialect}
@@ -14,6 +12,24 @@ use Rattle.ruled_csv.specs.declared.dialect.Fields.{Fields}
 use Rattle.ruled_csv.specs.declared.dialect.Fields.TheVariants.{Quoted, Plain, Words}
 use Rattle.csv.specs.declared.parser.Config.{Config}
 use Rattle.csv.specs.Reading.{default_config}
+
+-- ---- the lines of bytes
+
+-- whether a byte, here with the one in front of it, ends a line: a carriage return, or a line feed behind none
+abbrev pub ends_line : ℕ × ℕ → Bool
+ends_line bytes = (bytes.1 == 13) || ((bytes.1 == 10) && not (bytes.0 == 13))
+
+-- the line of the byte behind these, up to the largest that a counter holds
+abbrev pub line_behind : List ℕ → ℕ
+line_behind bytes = min (1 + count_by ends_line (zip (0 ∷ bytes) bytes)) (2 ^ 64 - 1)
+
+-- a line begins with the byte that begins comments
+abbrev pub is_comment : Option ℕ → List ℕ → Bool
+is_comment None line = false
+is_comment (Some sign) [] = false
+is_comment (Some sign) (byte ∷ line) = byte == sign
+
+-- ---- quotes
 
 -- fields may be in quotes
 abbrev pub has_quotes : Fields → Bool

@@ -1,8 +1,7 @@
 //! How rows are written.
 
 ghost use Rattle.std.specs.Prelude.{◌≡◌, ◌∷◌, [], ◌||◌, nat_le};
-ghost use Rattle.ruled_csv.specs.Lines.{is_comment};
-ghost use Rattle.ruled_csv.specs.Quotes.{are_words, has_quotes, is_quote, separator};
+ghost use Rattle.ruled_csv.specs.Quotes.{is_comment, are_words, has_quotes, is_quote, separator};
 
 /// How rows are written.
 #[derive(Clone, Copy)]

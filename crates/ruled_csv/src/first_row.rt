@@ -2,7 +2,7 @@
 
 ghost use Rattle.std.specs.Prelude.{◌≡◌, ◌≤◌, ◌∷◌, ◌||◌, [], drop, length, nat_le};
 ghost use Rattle.csv.specs.Reading.{strip_bom};
-ghost use Rattle.ruled_csv.specs.Lines.{is_comment};
+ghost use Rattle.ruled_csv.specs.Quotes.{is_comment};
 ghost use Rattle.ruled_csv.specs.Kept as spec;
 
 use crate::dialect::RowRules;

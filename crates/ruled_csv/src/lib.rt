@@ -6,7 +6,6 @@ mod fault;
 mod first_row;
 mod lines;
 mod reader;
-mod records;
 mod scanner;
 mod words;
 
@@ -14,5 +13,4 @@ pub use crate::dialect::{Dialect, Fields, RowRules};
 pub use crate::fault::RowsFault;
 pub use crate::first_row::{from_first_row, without_mark};
 pub use crate::lines::lines_left_out_count;
-pub use crate::reader::RowReader;
-pub use crate::records::read_rows;
+pub use crate::reader::{RowReader, read_rows};

@@ -80,7 +80,7 @@ impl Lines {
 /// A line that is left out counts as a line: what is read of a text has as many lines as the text.
 /// So the line that a fault names is that of the text. The function does nothing: its contract is
 /// the law.
-#[tactic(auto, using(crate::proofs::LinesKept::lines_count))]
+#[tactic(auto, using(crate::proofs::KeptTexts::lines_count))]
 pub fn lines_left_out_count()
     ensures { LinesCount }
 {}

@@ -1,4 +1,4 @@
-//! Rows whose bytes come in pieces.
+//! Rows of bytes that come one piece after another, and of bytes that are all there.
 
 ghost use Rattle.std.specs.Prelude.{◌≡◌, ◌≤◌, ◌++◌, ◌∷◌, [], ℕ, List, length, map, take, Some, IfOk, IsOk, OnErr, OnOk};
 ghost use Rattle.csv.specs.Records.{fields_of};
@@ -24,7 +24,7 @@ fn has_length(dialect: Dialect, columns: usize, fields: usize) -> bool
 }
 
 // The text of a row that begins on this line, or what is wrong with it.
-#[tactic(auto, using(crate::proofs::SoundRows::row_right, crate::proofs::SoundRows::row_wrong))]
+#[tactic(auto, using(crate::proofs::TextFaults::row_right, crate::proofs::TextFaults::row_wrong))]
 fn text_of(
     fields: &RowBuffer,
     row: usize,
@@ -232,4 +232,27 @@ impl RowReader {
             None => Ok(()),
         }
     }
+}
+
+/// The rows of separated values, each a record of its fields.
+///
+/// The byte `dialect.delimiter` separates fields, which are quoted as in CSV, unless
+/// `dialect.rows.fields` says otherwise. LF, CRLF and a lone CR end a row, and an empty line is no
+/// row, nor is one that `dialect.rows` leaves out. The fault is that of the first bad row: one with
+/// another number of fields than row 0, unless rows may be ragged, one that isn't UTF-8, or one in
+/// which a quote isn't closed or is followed by text. The only other fault is out of memory, which
+/// no bytes need.
+pub fn read_rows(
+    alloc: Global,
+    dialect: Dialect,
+    bytes: &[u8],
+) -> Result<Vec<StringRecord>, RowsFault>
+    ensures rows { IfOk result (λ rows. map fields_of rows.items ≡ rows_of dialect bytes.now) }
+    ensures fault { Tells (rows_fault dialect bytes.now) result }
+    ensures nothing { bytes.now ≡ [] → IsOk result }
+{
+    let mut rows = Vec::new(alloc);
+    let reader = RowReader::new(alloc, dialect).read(bytes, &mut rows)?;
+    reader.finish(&mut rows)?;
+    Ok(rows)
 }

@@ -128,7 +128,7 @@ fn begins_run(bytes: &[u8]) -> bool {
 }
 
 // How many bytes come before the first quote or end of a line.
-#[tactic(auto, using(crate::proofs::Runs::calm_found))]
+#[tactic(auto, using(crate::proofs::KeptTexts::calm_found))]
 fn run_of(bytes: &[u8]) -> usize
     ensures within { result ≤ length bytes.now }
     ensures calm { IsTrue (list_all is_calm (take result bytes.now)) }

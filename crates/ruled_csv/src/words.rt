@@ -4,7 +4,7 @@ ghost use Rattle.std.specs.Prelude.{◌≡◌, ◌<◌, ◌≤◌, length, posit
 ghost use Rattle.std.specs.Char.{is_ascii_whitespace};
 ghost use Rattle.csv.specs.Records.{fields_of};
 ghost use Rattle.ruled_csv.specs.Inside.{line_of};
-ghost use Rattle.ruled_csv.specs.Words as spec;
+ghost use Rattle.ruled_csv.specs.Rows as spec;
 
 use ruled_row::RowBuffer;
 use std::alloc::{AllocError, Global};
@@ -29,8 +29,8 @@ fn word_len(count: usize, text: &[u8]) -> usize
 }
 
 // The words of a text that begins with one, at most so many.
-#[tactic(auto, using(crate::proofs::CutWords::words_enough, crate::proofs::CutWords::words_all))]
-fn words_of(alloc: Global, most: usize, text: &[u8]) -> Result<RowBuffer, AllocError>
+#[tactic(auto, using(crate::proofs::Scans::words_enough, crate::proofs::Scans::words_all))]
+fn words_of(alloc: Global, most: usize, text: &[u8]) -> Result<ByteRecord, AllocError>
     ensures { IfOk result (λ row. fields_of row ≡ spec.words_of most text.now) }
 {
     let mut row = RowBuffer::new(alloc);
@@ -48,8 +48,8 @@ fn words_of(alloc: Global, most: usize, text: &[u8]) -> Result<RowBuffer, AllocE
 }
 
 // The line that these fields are the parts of, between tabs.
-#[tactic(auto, using(crate::proofs::CutWords::line_all))]
-fn line_of(alloc: Global, fields: &RowBuffer) -> Result<Vec<u8>, AllocError>
+#[tactic(auto, using(crate::proofs::Scans::line_all))]
+fn line_of(alloc: Global, fields: &ByteRecord) -> Result<Vec<u8>, AllocError>
     ensures { IfOk result (λ line. line.items ≡ line_of (fields_of fields.now)) }
 {
     let mut line = Vec::new(alloc);
@@ -66,7 +66,7 @@ fn line_of(alloc: Global, fields: &RowBuffer) -> Result<Vec<u8>, AllocError>
 
 /// The words of the line that these fields are the parts of, between tabs, if it has any: at most as
 /// many as there are columns, if that is known.
-#[tactic(auto, using(crate::proofs::CutWords::line_empty))]
+#[tactic(auto, using(crate::proofs::Scans::line_empty))]
 pub(crate) fn words_in(
     alloc: Global,
     columns: Option<usize>,

@@ -11,7 +11,7 @@ use Rattle.pg_layout.specs.Text.{Text}
 use Rattle.pg_layout.specs.declared.position.Position.{Position}
 use Rattle.ruled_json.specs.Rows.{Rules}
 use Rattle.ruled_csv.specs.Faults.{rows_fault}
-use Rattle.ruled_csv.proofs.SoundRows.{all-sound}
+use Rattle.ruled_csv.proofs.TextFaults.{all-sound}
 use Rattle.ruled_json.specs.Streamed.{LineRules, streamed_line_fault}
 use Rattle.ruled_table.specs.Arranged.{arranged, chosen_rows, ends_of, even, leveled, named, numbered, sort_fault_by, sorted_by_word, tails}
 use Rattle.ruled_table.specs.Columns.{column_fault, drawn_at}

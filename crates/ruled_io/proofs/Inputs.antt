@@ -8,7 +8,7 @@ use Rattle.std.proofs.lemmas.List.{append_cancel_left, take_all}
 use Rattle.ruled_json.specs.Rows.{Rules}
 use Rattle.ruled_json.specs.Streamed.{LineRules}
 use Rattle.ruled_csv.specs.Faults as csv
-use Rattle.ruled_csv.proofs.SoundRows.{all-sound}
+use Rattle.ruled_csv.proofs.TextFaults.{all-sound}
 use Rattle.std.proofs.lemmas.Bool.{cases_Bool, lt-ltb, true≢false, false≢true}
 use Rattle.pg_layout.specs.Text.{Text}
 use Rattle.ruled_table.specs.declared.options.Options.{Options}

@@ -17,7 +17,7 @@ use Rattle.csv.specs.Machine.{next_record}
 use Rattle.csv.specs.Reading.{records, records_from, strip_bom}
 use Rattle.ruled_csv.specs.Kept.{kept_text, lines_of}
 use Rattle.ruled_csv.specs.Quotes.{are_words, config_of}
-use Rattle.ruled_csv.specs.Words.{rows_of_lines, words_of}
+use Rattle.ruled_csv.specs.Rows.{rows_of_lines, words_of}
 use Rattle.ruled_json.specs.Rows as json_rows
 use Rattle.ruled_csv.specs.Faults as csv_faults
 use Rattle.ruled_csv.specs.Reading as csv_reading

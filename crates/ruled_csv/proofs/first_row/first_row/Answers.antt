@@ -1,7 +1,7 @@
 -- What comes before the first row of a text, byte by byte.
 use Rattle.std.proofs.Common.{◌≡◌, ◌∙◌, ◌||◌, ◌+◌, ℕ, Bool, [], ◌∷◌, get_or, drop, sym, ap, subst, take, ◌<◌, true, false, List, length, add-one}
 use Rattle.std.specs.Prelude.{nat_le, fold}
-use Rattle.ruled_csv.specs.Lines.{is_comment, line_behind}
+use Rattle.ruled_csv.specs.Quotes.{is_comment, line_behind}
 use Rattle.ruled_csv.specs.Kept.{first_row_behind, from_first_row, is_line_end}
 use Rattle.ruled_csv.specs.declared.lines.Lines.{Lines}
 use Rattle.ruled_csv.proofs.TextFaults.{line-counted}

@@ -1,6 +1,6 @@
 use Rattle.std.proofs.Common.{◌∙◌, ◌++◌, arith, ap}
 use Rattle.csv.specs.Records.{fields_of}
-use Rattle.ruled_csv.proofs.CutWords.{line_first, line_more}
+use Rattle.ruled_csv.proofs.Scans.{line_first, line_more}
 use Rattle.ruled_csv.proofs.words.line_of.Goals as goal
 use Rattle.ruled_csv.proofs.words.line_of.Goals.{then-place-gt0+in_ok-push, else-place-gt0}
 

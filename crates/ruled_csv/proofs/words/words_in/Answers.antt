@@ -1,7 +1,7 @@
 use Rattle.std.proofs.Common.{◌∙◌, sym, ap}
 use Rattle.csv.specs.Records.{fields_of}
-use Rattle.ruled_csv.proofs.CutWords.{line_filled}
-use Rattle.ruled_csv.specs.Words as spec
+use Rattle.ruled_csv.proofs.Scans.{line_filled}
+use Rattle.ruled_csv.specs.Rows as spec
 use Rattle.ruled_csv.proofs.words.words_in.Goals as goal
 
 pub returns : goal.returns

@@ -1,6 +1,6 @@
 use Rattle.std.proofs.Common.{◌∙◌, arith, sym}
 use Rattle.csv.specs.Records.{fields_of, partial_of}
-use Rattle.ruled_csv.proofs.CutWords.{words_step}
+use Rattle.ruled_csv.proofs.Scans.{words_step}
 use Rattle.ruled_csv.proofs.words.words_of.Goals as goal
 
 pub loop-count-preserved : goal.loop-count-preserved

@@ -1,6 +1,6 @@
 use Rattle.std.proofs.Common.{◌≡◌, [], ◌++◌}
 use Rattle.csv.specs.Records.{fields_of, partial_of}
-use Rattle.ruled_csv.specs.Words.{words_of}
+use Rattle.ruled_csv.specs.Rows.{words_of}
 use Rattle.ruled_csv.proofs.words.words_of.Given as goal
 
 abbrev pub invariant-loop-count : goal.invariant-loop-count

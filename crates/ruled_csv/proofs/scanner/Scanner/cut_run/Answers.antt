@@ -7,7 +7,7 @@ use Rattle.memchr.specs.Find.{is_byte, places_from}
 use Rattle.csv.specs.Records.{partial_of}
 use Rattle.ruled_csv.specs.Quotes.{separator}
 use Rattle.ruled_csv.specs.Inside.{Hand, fields_behind, hand_of, state_behind}
-use Rattle.ruled_csv.proofs.Runs.{field-ends, next-place, none-left, on-grown, run-joins}
+use Rattle.ruled_csv.proofs.KeptTexts.{field-ends, next-place, none-left, on-grown, run-joins}
 use Rattle.ruled_csv.proofs.scanner.Scanner.cut_run.Goals as goal
 
 pub slice_bounds-end_field_with-count : goal.slice_bounds-end_field_with-count

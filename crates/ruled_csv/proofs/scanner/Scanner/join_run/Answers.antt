@@ -3,7 +3,7 @@ use Rattle.std.proofs.lemmas.Result.{on_ok_weaker}
 use Rattle.csv.specs.Records.{partial_of}
 use Rattle.ruled_csv.specs.Inside.{Hand, Joins, calm_lines, hand_cut, hand_of, state_of}
 use Rattle.ruled_csv.specs.declared.lines.Lines.{Lines}
-use Rattle.ruled_csv.proofs.Runs.{bare-joins, bare-state, on-grown, quoted-joins, quoted-state}
+use Rattle.ruled_csv.proofs.KeptTexts.{bare-joins, bare-state, on-grown, quoted-joins, quoted-state}
 use Rattle.ruled_csv.proofs.scanner.Scanner.join_run.Goals as goal
 
 pub returns-then-is_quoted-clause-hand : goal.returns-then-is_quoted-clause-hand

@@ -2,7 +2,7 @@ use Rattle.std.proofs.Common.{List, map, subst, sym}
 use Rattle.csv.specs.Records.{fields_of}
 use Rattle.pg_layout.specs.Text.{Text}
 use Rattle.ruled_csv.specs.Rows.{ended_rows}
-use Rattle.ruled_csv.proofs.SoundRows.{all-sound}
+use Rattle.ruled_csv.proofs.TextFaults.{all-sound}
 use Rattle.ruled_io.specs.Reading.{AppendsRest, HasTaken}
 use Rattle.ruled_io.specs.declared.reader.Reader.{Reader}
 use Rattle.ruled_io.proofs.Readers.{rows-end}

@@ -2,7 +2,7 @@ use Rattle.std.proofs.Common.{◌∙◌, [], ◌++◌, map, append-nil, sym, ap}
 use Rattle.csv.specs.Records.{fields_of}
 use Rattle.ruled_csv.specs.Faults.{rows_fault}
 use Rattle.ruled_csv.proofs.Readers.{all-given, told-on}
-use Rattle.ruled_csv.proofs.records.read_rows.Goals as goal
+use Rattle.ruled_csv.proofs.reader.read_rows.Goals as goal
 
 pub returns-in_err-reader-clause-fault : goal.returns-in_err-reader-clause-fault
 returns-in_err-reader-clause-fault c =
