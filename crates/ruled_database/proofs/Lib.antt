@@ -1,4 +1,2 @@
 mod Floats
-mod Listing
-mod Reading
 mod Tabling

@@ -1,10 +1,6 @@
 pub mod Files
-pub mod Reads
 pub mod Trees
-pub mod Reading
 pub mod Tokens
 pub mod Definitions
-pub mod Values
 pub mod Tables
 pub mod Listings
-pub mod Words

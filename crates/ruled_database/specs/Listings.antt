@@ -1,5 +1,5 @@
--- The tables that a database lists, and the rows of one.
-use Rattle.std.specs.Prelude.{◌≡◌, ◌≢◌, ◌⊎◌, ⊤, ℕ, ◌^◌, ◌==◌, nat_lt, true, false, List, [], ◌∷◌, ◌++◌, codes, bytes_eq, unsigned_abs, Option, Some, None, option_map, if◌then◌else◌}
+-- The tables that a database lists, the rows of one, and the words for why there are none.
+use Rattle.std.specs.Prelude.{◌≡◌, ◌≢◌, ◌⊎◌, ⊤, ℕ, ◌^◌, ◌==◌, nat_lt, true, false, List, [], ◌∷◌, ◌++◌, codes, bytes_eq, unsigned_abs, Option, Some, None, option_map, if◌then◌else◌, decimal}
 use Rattle.std.specs.Option.{option_and_then, option_or, unwrap_or}
 use Rattle.std.specs.Str.{str_eq_ignore_ascii_case}
 use Rattle.csv.specs.Records.{AllText, field_at}
@@ -256,3 +256,21 @@ LacksListing file Elsewhere = ⊥
 LacksListing file Keyed = ⊥
 LacksListing file Computed = ⊥
 LacksListing file (Table fault) = fault ≡ row.Memory
+
+-- ---- the words for why a database has no rows to show
+
+abbrev pub table_fault_text : TableFault → List ℕ
+table_fault_text row.Damage = codes "a page is damaged"
+table_fault_text row.Default = codes "a default isn't supported"
+table_fault_text (row.Encoding at) = codes "row " ++ (decimal at ++ codes ": not Unicode")
+table_fault_text row.Memory = codes "out of memory"
+
+abbrev pub database_fault_text : DatabaseFault → List ℕ
+database_fault_text Database = codes "not an SQLite database, or it is encrypted or of an unsupported kind"
+database_fault_text Encoding = codes "its encoding isn't supported"
+database_fault_text (Schema fault) = codes "the list of the tables: " ++ table_fault_text fault
+database_fault_text Absent = codes "no such table"
+database_fault_text Elsewhere = codes "a view or a virtual table, which stores no rows"
+database_fault_text Keyed = codes "its primary key isn't supported"
+database_fault_text Computed = codes "a column that is computed isn't supported"
+database_fault_text (Table fault) = table_fault_text fault

@@ -1,26 +1,85 @@
--- The rows of a table, as they are shown.
-use Rattle.std.specs.Prelude.{◌≡◌, ◌<◌, ◌⊎◌, ℕ, ℤ, nat_le, nat_lt, List, [], ◌∷◌, ◌++◌, length, map, Any, Option, Some, None, Result, Ok, Err, if◌then◌else◌}
+-- The rows of a table, as they are shown, and the texts of values.
+use Rattle.std.specs.Prelude.{◌++◌, ℕ, List, [], codes, ⊤, ◌+◌, ◌*◌, ◌==◌, Bool, true, false, ◌∷◌, map, if◌then◌else◌, ◌≡◌, ◌<◌, ◌⊎◌, ℤ, nat_le, nat_lt, length, Any, Option, Some, None}
+use Rattle.std.specs.Prelude.{Result, Ok, Err}
+use Rattle.std.specs.Fmt.{signed_decimal}
+use Rattle.hex.specs.Hex.{encode_lower}
+use Rattle.sqlite_value.specs.declared.value.Value.{Value}
+use Rattle.sqlite_value.specs.declared.value.Value.TheVariants.{Null, Int, Real, Text, Blob}
+use Rattle.sqlite_sql.specs.Spelling.{spelled}
+use Rattle.csv.specs.Records.{AllText}
+use Rattle.ruled_database.specs.declared.fault.TableFault.{TableFault}
+use Rattle.ruled_database.specs.declared.fault.TableFault.TheVariants as fault
+use Rattle.std.specs.Char.Utf16.{has_unpaired_surrogate, utf16_lossy_chars}
+use Rattle.std.specs.Str.{encode_utf8_all}
+use Rattle.sqlite_format.specs.Bytes.{u32_at}
+use Rattle.sqlite_value.specs.Order.{Row, column}
+use Rattle.ruled_database.specs.declared.encoding.Encoding.{Encoding}
+use Rattle.ruled_database.specs.declared.encoding.Encoding.TheVariants.{Utf8, Utf16Low, Utf16High}
 use Rattle.std.specs.Int.{cast_signed, w64}
 use Rattle.std.specs.Option.{option_and_then}
-use Rattle.csv.specs.Records.{AllText}
 use Rattle.sqlite_format.specs.Cell.{flip_sign}
 use Rattle.sqlite_format.specs.declared.kind.Tree.{Tree}
 use Rattle.sqlite_record.specs.Affinity.{as_real}
 use Rattle.sqlite_record.specs.Record.{decode}
-use Rattle.sqlite_value.specs.Order.{Row, column}
-use Rattle.sqlite_value.specs.declared.value.Value.{Value}
-use Rattle.sqlite_value.specs.declared.value.Value.TheVariants.{Int}
-use Rattle.ruled_database.specs.Values.{shown_text, encoding_of, in_utf8}
 use Rattle.ruled_database.specs.Files.{page_count}
-use Rattle.ruled_database.specs.Reading.{Gives}
-use Rattle.ruled_database.specs.Reads.{Read, all}
-use Rattle.ruled_database.specs.Trees.{Stored, record_of, rows_below}
+use Rattle.ruled_database.specs.Trees.{Gives, Read, all, Stored, record_of, rows_below}
 use Rattle.ruled_database.specs.declared.definition.Column.{Column}
 use Rattle.ruled_database.specs.declared.definition.Definition.{Definition}
 use Rattle.ruled_database.specs.declared.definition.Shown.{Shown}
 use Rattle.ruled_database.specs.declared.definition.Shown.TheVariants.{Values, Reals, Rowids}
-use Rattle.ruled_database.specs.declared.fault.TableFault.{TableFault}
-use Rattle.ruled_database.specs.declared.fault.TableFault.TheVariants.{Damage, Default, Encoding, Memory}
+use Rattle.ruled_database.specs.declared.fault.TableFault.TheVariants.{Damage, Default, Memory}
+
+-- ---- texts of a database in UTF-8, and values as texts
+
+-- how a file says that texts are written
+abbrev pub encoding_of : List ℕ → Encoding
+encoding_of file = if u32_at file 56 == 2 then Utf16Low else if u32_at file 56 == 3 then Utf16High else Utf8
+
+-- units of two bytes, of which the high one comes first or last; a last byte alone is none
+abbrev pub units_of : Bool → List ℕ → List ℕ
+units_of high [] = []
+units_of high (byte ∷ []) = []
+units_of high (first ∷ (second ∷ rest)) = (if high then first * 256 + second else second * 256 + first) ∷ units_of high rest
+
+-- a text that isn't UTF-16 is none of UTF-8 either
+unfoldable pub text_of : Bool → List ℕ → List ℕ
+text_of high bytes =
+    let units = units_of high bytes in
+    if has_unpaired_surrogate units then 255 ∷ [] else encode_utf8_all (utf16_lossy_chars units)
+
+abbrev pub value_of : Bool → Value → Value
+value_of high Null = Null
+value_of high (Int n) = Int n
+value_of high (Real x) = Real x
+value_of high (Text bytes) = Text (text_of high bytes)
+value_of high (Blob bytes) = Blob bytes
+
+-- values, of which texts are in UTF-8
+abbrev pub in_utf8 : Encoding → Row → Row
+in_utf8 Utf8 values = values
+in_utf8 Utf16Low values = map (value_of false) values
+in_utf8 Utf16High values = map (value_of true) values
+
+-- ---- values as texts
+
+-- this one for NULL, numbers as SQLite writes them, and bytes that are no text as a literal of SQL
+abbrev pub shown_text : List ℕ → Value → List ℕ
+shown_text null_text Null = null_text
+shown_text null_text (Int n) = signed_decimal n
+shown_text null_text (Real x) = spelled x
+shown_text null_text (Text bytes) = bytes
+shown_text null_text (Blob bytes) = codes "x'" ++ (encode_lower bytes ++ codes "'")
+
+-- ---- why texts are no row to show
+
+-- one of them isn't UTF-8, unless memory was refused
+abbrev pub LacksTexts : List (List ℕ) → TableFault → Type 0
+LacksTexts texts fault.Damage = ⊥
+LacksTexts texts fault.Default = ⊥
+LacksTexts texts (fault.Encoding row) = ¬ AllText texts
+LacksTexts texts fault.Memory = ⊤
+
+-- ---- the rows of a table
 
 -- ---- the texts of a row
 
@@ -80,7 +139,7 @@ abbrev pub GivesRow : {U : Type 0} → List ℕ → Definition → Stored → �
 GivesRow file definition row before after old new (Ok x) = Gives {U = ℕ} (shown_row file definition row) before after old new (Ok 0)
 GivesRow file definition row before after old new (Err Damage) = Gives {U = ℕ} (shown_row file definition row) before after old new (Err Damage)
 GivesRow file definition row before after old new (Err Default) = IsOld file definition row
-GivesRow file definition row before after old new (Err (Encoding at)) = HasWrongText file definition row
+GivesRow file definition row before after old new (Err (fault.Encoding at)) = HasWrongText file definition row
 GivesRow file definition row before after old new (Err Memory) = Unit {0}
 
 -- no tree has more levels
@@ -112,7 +171,7 @@ abbrev pub Walks : {P : Type 0} → (P → List Stored) → List ℕ → Tree �
 Walks shown file tree root (Ok it) = (rows_below file tree most_levels root).1 ≡ Some (shown it)
 Walks shown file tree root (Err Damage) = IsUnsound file (rows_below file tree most_levels root)
 Walks shown file tree root (Err Default) = ⊥
-Walks shown file tree root (Err (Encoding row)) = ⊥
+Walks shown file tree root (Err (fault.Encoding row)) = ⊥
 Walks shown file tree root (Err Memory) = Unit {0}
 
 -- the rows of a table stand behind others
@@ -120,5 +179,5 @@ abbrev pub AddsRows : {U : Type 0} → List ℕ → ℕ → Definition → List 
 AddsRows file root definition old new (Ok x) = (rows : List (List (List ℕ))) × AreRows file root definition rows × (new ≡ old ++ rows)
 AddsRows file root definition old new (Err Damage) = IsDamaged file root definition
 AddsRows file root definition old new (Err Default) = HasRow file definition.tree root (IsOld file definition)
-AddsRows file root definition old new (Err (Encoding row)) = HasRow file definition.tree root (HasWrongText file definition)
+AddsRows file root definition old new (Err (fault.Encoding row)) = HasRow file definition.tree root (HasWrongText file definition)
 AddsRows file root definition old new (Err Memory) = Unit {0}

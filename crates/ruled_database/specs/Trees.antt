@@ -1,14 +1,53 @@
--- The rows of a tree, from left to right: those of its leaves, and in an index also those between two children.
-use Rattle.std.specs.Prelude.{ℕ, Bool, zero, suc, ◌-◌, ◌==◌, true, List, [], ◌∷◌, length, map, take, drop, Option, if◌then◌else◌}
+-- The rows of a tree, from left to right, and what reading them does.
+use Rattle.std.specs.Prelude.{ℕ, ◌+◌, List, [], ◌∷◌, ◌++◌, Option, Some, None, Bool, zero, suc, ◌-◌, ◌==◌, true, length, map, take, drop, if◌then◌else◌, ◌≡◌, ◌<◌, ◌⊎◌, Result, Ok, Err}
+use Rattle.std.specs.Option.{option_map_or, option_and_then}
 use Rattle.std.specs.List.{range_with_len}
-use Rattle.std.specs.Option.{option_and_then}
 use Rattle.sqlite_format.specs.Bytes.{u32_at}
 use Rattle.sqlite_format.specs.Cell.{body_key, cell_body, cell_child, first_overflow, local_part, spilled_len}
 use Rattle.sqlite_format.specs.Kinds.{holds_rows}
 use Rattle.sqlite_format.specs.Page.{cell_count, right_child}
 use Rattle.sqlite_format.specs.declared.kind.Tree.{Tree}
 use Rattle.ruled_database.specs.Files.{TreePage, cell_at, header_at, page, tree_page}
-use Rattle.ruled_database.specs.Reads.{Read, all, both, damaged, given, one_page, where_some}
+use Rattle.ruled_database.specs.declared.fault.TableFault.{TableFault}
+use Rattle.ruled_database.specs.declared.fault.TableFault.TheVariants.{Damage, Default, Encoding, Memory}
+use Rattle.ruled_database.specs.declared.tree.StoredRow.{StoredRow}
+
+-- ---- reading parts, one behind the other
+
+-- how many pages it takes, and what it gives where all parts are sound
+abbrev pub Read : Type 0 → Type 0
+Read X = ℕ × Option X
+
+-- a part that isn't sound
+abbrev pub damaged : {X : Type 0} → Read X
+damaged = (0, None)
+
+-- items for which no page is read
+abbrev pub given : {X : Type 0} → List X → Read (List X)
+given items = (0, Some items)
+
+-- one page, which holds no item
+abbrev pub one_page : {X : Type 0} → Read (List X)
+one_page = (1, Some [])
+
+-- the items of one part behind those of another, where both are sound
+abbrev pub joined : {X : Type 0} → Option (List X) → Option (List X) → Option (List X)
+joined None last = None
+joined (Some first) None = None
+joined (Some first) (Some last) = Some (first ++ last)
+
+abbrev pub both : {X : Type 0} → Read (List X) → Read (List X) → Read (List X)
+both first last = (first.0 + last.0, joined first.1 last.1)
+
+abbrev pub all : {X : Type 0} → List (Read (List X)) → Read (List X)
+all [] = given []
+all (first ∷ others) = both first (all others)
+
+-- what is read where there is a value, without which the part isn't sound
+abbrev pub where_some : {X Y : Type 0} → (X → Read Y) → Option X → Read Y
+where_some read value = option_map_or read value damaged
+
+-- ---- the rows of a tree: those of its leaves, and in an index also those between two children
 
 -- a row as its page has it: its key, which a table's rows have, the first part of its record, how many bytes the rest has, and
 -- the overflow page in which that begins
@@ -67,3 +106,26 @@ module _ (file : List ℕ) where
   -- the record of a row: what its page holds, and the rest in overflow pages
   abbrev pub record_of : Stored → Read (List ℕ)
   record_of row = both (given row.local) (chain row.spilled row.overflow row.spilled)
+
+-- ---- what reading a part has done
+
+-- it gave the items that are there, and took the pages that they need; or the part isn't sound, or takes more pages than were left
+abbrev pub Gives : {X U : Type 0} → Read (List X) → ℕ → ℕ → List X → List X → Result U TableFault → Type 0
+Gives {X} read before after old new (Ok x) = (items : List X) × (read.1 ≡ Some items) × (new ≡ old ++ items) × (before ≡ after + read.0)
+Gives read before after old new (Err Damage) = (read.1 ≡ None) ⊎ (before < read.0)
+Gives read before after old new (Err Default) = ⊥
+Gives read before after old new (Err (Encoding row)) = ⊥
+Gives read before after old new (Err Memory) = Unit {0}
+
+-- of one page
+abbrev pub GivesPage : {X P : Type 0} → (P → X) → Option X → ℕ → ℕ → Result P TableFault → Type 0
+GivesPage shown found before after (Ok it) = (found ≡ Some (shown it)) × (before ≡ after + 1)
+GivesPage shown found before after (Err Damage) = (found ≡ None) ⊎ (before ≡ 0)
+GivesPage shown found before after (Err Default) = ⊥
+GivesPage shown found before after (Err (Encoding row)) = ⊥
+GivesPage shown found before after (Err Memory) = Unit {0}
+
+-- ---- the row that a row of the walk is
+
+abbrev pub stored_of : StoredRow → Stored
+stored_of row = record { key = row.key; local = row.payload.local.now; spilled = row.payload.spilled; overflow = row.payload.overflow }

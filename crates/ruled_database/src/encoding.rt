@@ -2,7 +2,7 @@
 
 ghost use Rattle.std.specs.Prelude.{◌≡◌, [], ◌∷◌, ◌++◌, map, IfOk, OnOk};
 ghost use Rattle.sqlite_value.specs.Value.{owned};
-ghost use Rattle.ruled_database.specs.Values as spec;
+ghost use Rattle.ruled_database.specs.Tables as spec;
 
 use sqlite_value::row::Row;
 use sqlite_value::value::ValueRef;
@@ -35,7 +35,7 @@ fn units_of(alloc: Global, is_high: bool, mut bytes: &[u8]) -> Result<Vec<u16>, 
     Ok(units)
 }
 
-#[tactic(auto, unfolding(crate::specs::Values::text_of))]
+#[tactic(auto, unfolding(crate::specs::Tables::text_of))]
 // A text in UTF-8; one that isn't UTF-16 is none.
 fn text_of(alloc: Global, is_high: bool, bytes: &[u8]) -> Result<Vec<u8>, AllocError>
     ensures { IfOk result (λ text. text.items ≡ spec.text_of is_high bytes.now) }

@@ -1,7 +1,7 @@
 //! Why a database has no rows to show.
 
 ghost use Rattle.std.specs.Prelude.{◌≡◌, Some};
-ghost use Rattle.ruled_database.specs.Words.{database_fault_text, table_fault_text};
+ghost use Rattle.ruled_database.specs.Listings.{database_fault_text, table_fault_text};
 ghost use Rattle.ruled_database.specs.declared.fault.DatabaseFault.TheVariants.{Table};
 ghost use Rattle.ruled_database.specs.declared.fault.TableFault.{TableFault};
 

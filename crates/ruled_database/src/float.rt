@@ -44,6 +44,7 @@ fn power(row: u64) -> u64
 }
 
 // The first digits of a normal float, as a number.
+#[tactic(auto, unfolding(sqlite_sql::specs::Spelling::digits))]
 fn first_digits(bits: u64) -> u64
     requires { 2 ^ 52 ≤ bits }
     ensures value { result ≡ spec.digits bits }
@@ -168,6 +169,7 @@ impl Digits {
     }
 
     // How many digits are kept.
+    #[tactic(auto, unfolding(sqlite_sql::specs::Spelling::kept))]
     fn kept(self, bits: u64) -> usize
         requires normal { 2 ^ 52 ≤ bits }
         requires number { bits < 2047 * 2 ^ 52 }

@@ -8,7 +8,6 @@ mod fault;
 mod file;
 mod float;
 mod overflow;
-mod page;
 mod schema;
 mod table;
 mod token;

@@ -2,8 +2,7 @@
 
 ghost use Rattle.std.specs.Prelude.{◌≡◌, length, IfOk};
 ghost use Rattle.ruled_database.specs.Files.{page, page_count, usable_size};
-ghost use Rattle.ruled_database.specs.Reading.{Gives, GivesPage, stored_of};
-ghost use Rattle.ruled_database.specs.Trees.{chain, record_of};
+ghost use Rattle.ruled_database.specs.Trees.{Gives, GivesPage, stored_of, chain, record_of};
 
 use crate::fault::TableFault;
 use crate::file::File;

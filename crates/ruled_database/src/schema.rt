@@ -2,7 +2,7 @@
 
 ghost use Rattle.std.specs.Prelude.{◌≡◌, ◌∷◌, map, option_map, IfErr, IfOk};
 ghost use Rattle.csv.specs.Records.{fields_of};
-ghost use Rattle.ruled_database.specs.Values.{LacksTexts};
+ghost use Rattle.ruled_database.specs.Tables.{LacksTexts};
 ghost use Rattle.ruled_database.specs.Listings as spec;
 ghost use Rattle.ruled_database.specs.Listings.{AreEntryRows, AreListed, AreTable, IsListing, LacksEntries, LacksEntry, LacksListing, LacksSchema, LacksTable, entry_of};
 
@@ -147,7 +147,7 @@ fn stored_definition(
 }
 
 // The rows of the table that begins at this page, with the names of its columns as row 0.
-#[tactic(auto, using(crate::proofs::Listing::lacks_added, crate::proofs::Listing::lacks_names))]
+#[tactic(auto, using(crate::proofs::Tabling::lacks_added, crate::proofs::Tabling::lacks_names))]
 fn rows_of(
     alloc: Global,
     file: File<'_>,
@@ -179,7 +179,7 @@ fn file_of(bytes: &[u8]) -> Result<File<'_>, DatabaseFault>
 }
 
 // The rows of an entry of the schema, with this text for NULL.
-#[tactic(auto, using(crate::proofs::Listing::lacks_by_definition, crate::proofs::Listing::lacks_by_rows))]
+#[tactic(auto, using(crate::proofs::Tabling::lacks_by_definition, crate::proofs::Tabling::lacks_by_rows))]
 fn entry_rows(
     alloc: Global,
     file: File<'_>,

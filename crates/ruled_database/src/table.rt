@@ -4,9 +4,8 @@ ghost use Rattle.std.specs.Prelude.{◌≡◌, map, IfErr, IfOk, OnOk};
 ghost use Rattle.csv.specs.Records.{fields_of};
 ghost use Rattle.sqlite_record.specs.Affinity.{as_real};
 ghost use Rattle.sqlite_value.specs.Value.{owned};
-ghost use Rattle.ruled_database.specs.Values.{LacksTexts};
-ghost use Rattle.ruled_database.specs.Reading.{stored_of};
-ghost use Rattle.ruled_database.specs.Tables.{AddsRows, GivesRow, names_in, rowid, texts_in, value_at, value_in};
+ghost use Rattle.ruled_database.specs.Tables.{LacksTexts, AddsRows, GivesRow, names_in, rowid, texts_in, value_at, value_in};
+ghost use Rattle.ruled_database.specs.Trees.{stored_of};
 
 use crate::definition::{Column, Definition, Shown};
 use crate::fault::TableFault;

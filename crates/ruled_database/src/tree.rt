@@ -4,14 +4,11 @@ ghost use Rattle.std.specs.Prelude.{◌≡◌, ◌<◌, ◌≤◌, ℕ, length, 
 ghost use Rattle.sqlite_format.specs.Cell.{IsBody, body_key, cell_body, cell_size};
 ghost use Rattle.sqlite_format.specs.Kinds.{holds_rows};
 ghost use Rattle.ruled_database.specs.Files.{page_of};
-ghost use Rattle.ruled_database.specs.Reads.{given};
-ghost use Rattle.ruled_database.specs.Reading.{Gives, GivesPage, stored_of};
+ghost use Rattle.ruled_database.specs.Trees.{given, Gives, GivesPage, stored_of, own_row, page_at, rows_at, rows_below, rows_of_child, stored_in};
 ghost use Rattle.ruled_database.specs.Tables.{Walks};
-ghost use Rattle.ruled_database.specs.Trees.{own_row, page_at, rows_at, rows_below, rows_of_child, stored_in};
 
 use crate::fault::TableFault;
-use crate::file::File;
-use crate::page::{cell_of, node_of};
+use crate::file::{File, cell_of, node_of};
 use sqlite_format::bytes::get_u32;
 use sqlite_format::cell::{self, Payload};
 use sqlite_format::{Node, Tree};

@@ -4,7 +4,7 @@ ghost use Rattle.std.specs.Prelude.{◌≡◌, ◌≢◌, ◌++◌, ◌∷◌, [
 ghost use Rattle.hex.specs.Hex.{encode_lower};
 ghost use Rattle.csv.specs.Records.{fields_of, partial_of};
 ghost use Rattle.sqlite_value.specs.Value.{owned};
-ghost use Rattle.ruled_database.specs.Values.{LacksTexts, shown_text};
+ghost use Rattle.ruled_database.specs.Tables.{LacksTexts, shown_text};
 ghost use Rattle.ruled_database.specs.declared.fault.TableFault.{TableFault};
 
 use crate::fault::TableFault;

@@ -26,7 +26,7 @@ use Rattle.sqlite.specs.Outline.{Outline}
 use Rattle.sqlite.specs.Start.{FindsIn}
 use Rattle.sqlite.specs.State.{HasCleanDisk, IsLive, IsStatement, IsUnchanged, Opens, Shown, ShowsRows, State, Writes, mode_of, text_of}
 use Rattle.sqlite.specs.Steps.{Outlines, column_names}
-use Rattle.ruled_database.specs.Values.{shown_text}
+use Rattle.ruled_database.specs.Tables.{shown_text}
 use Rattle.ruled_sql.specs.Answers.{Changes, IsAnswer, IsChange, IsFaultOfRow, IsHeld, Makes, Means, Shows, image_of, shown_rows}
 use Rattle.ruled_sql.specs.declared.fault.QueryFault.{QueryFault}
 use Rattle.ruled_sql.specs.declared.fault.QueryFault.TheVariants.{Change, Encoding, Limit, Memory, Refused}

@@ -20,7 +20,7 @@ use Rattle.sqlite.specs.Files.{AreFoundIn, HoldsDatabase}
 use Rattle.sqlite.specs.Listing.{IsSourceOf, reads_listing, understood}
 use Rattle.sqlite.specs.State.{text_of}
 use Rattle.sqlite.specs.Steps.{column_names}
-use Rattle.ruled_database.specs.Values.{shown_text}
+use Rattle.ruled_database.specs.Tables.{shown_text}
 use Rattle.ruled_sql.specs.declared.fault.QueryFault.{QueryFault}
 use Rattle.ruled_sql.specs.declared.fault.QueryFault.TheVariants.{Change, Encoding, Limit, Memory, Refused}
 use Rattle.ruled_sql.specs.declared.fault.SqlFault.{SqlFault}

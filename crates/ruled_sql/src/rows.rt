@@ -2,7 +2,7 @@
 
 ghost use Rattle.std.specs.Prelude.{◌≡◌, ◌≢◌, [], map, Err, IfErr, IfOk, if◌then◌else◌};
 ghost use Rattle.csv.specs.Records.{fields_of};
-ghost use Rattle.ruled_database.specs.Values.{shown_text};
+ghost use Rattle.ruled_database.specs.Tables.{shown_text};
 ghost use Rattle.ruled_sql.specs.Answers.{AreAnswered, HoldsNone, IsFaultOfRow, LacksRows, LacksText, shown_rows};
 ghost use Rattle.ruled_sql.specs.Filled.{AreQueried, LacksQueried, names_no_table};
 ghost use Rattle.ruled_sql.specs.declared.fault.SqlFault.TheVariants.{Database, NoRows, NoTable, Query};

@@ -1,5 +1,5 @@
 use Rattle.std.proofs.Common.{◌≡◌, ◌++◌, length}
-use Rattle.ruled_database.specs.Values.{units_of}
+use Rattle.ruled_database.specs.Tables.{units_of}
 use Rattle.ruled_database.proofs.encoding.units_of.Given as goal
 
 abbrev pub invariant-loop-bytes : goal.invariant-loop-bytes

@@ -1,5 +1,5 @@
 use Rattle.std.proofs.Common.{◌≡◌, map, take}
-use Rattle.ruled_database.specs.Values.{value_of}
+use Rattle.ruled_database.specs.Tables.{value_of}
 use Rattle.ruled_database.proofs.encoding.utf8_of.Given as goal
 
 abbrev pub invariant-loop-place : goal.invariant-loop-place

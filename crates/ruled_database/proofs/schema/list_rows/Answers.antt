@@ -1,7 +1,7 @@
 use Rattle.std.proofs.Common.{inr, map, rules}
 use Rattle.csv.specs.Records.{fields_of}
 use Rattle.ruled_database.specs.Listings.{AreListed, LacksEntries}
-use Rattle.ruled_database.proofs.Listing.{lacks_schema}
+use Rattle.ruled_database.proofs.Tabling.{lacks_schema}
 use Rattle.ruled_database.proofs.schema.list_rows.Goals as goal
 
 pub returns-in_err-schema-clause-fault : goal.returns-in_err-schema-clause-fault

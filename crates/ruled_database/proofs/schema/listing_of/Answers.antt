@@ -1,7 +1,7 @@
 use Rattle.std.proofs.Common.{◌≡◌, ◌∙◌, ◌++◌, ◌∷◌, [], ℕ, List, ap, map}
 use Rattle.csv.specs.Records.{Row as Fields, fields_of}
 use Rattle.ruled_database.specs.Listings.{header, with_entries}
-use Rattle.ruled_database.proofs.Listing.{lacks_lines}
+use Rattle.ruled_database.proofs.Tabling.{lacks_lines}
 use Rattle.ruled_database.proofs.schema.listing_of.Goals as goal
 
 pub returns-in_err-push_listing-clause-fault : goal.returns-in_err-push_listing-clause-fault

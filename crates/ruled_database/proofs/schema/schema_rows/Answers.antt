@@ -1,7 +1,7 @@
 use Rattle.std.proofs.Common.{◌≡◌, map}
 use Rattle.csv.specs.Records.{fields_of}
 use Rattle.ruled_database.specs.Listings.{schema_definition}
-use Rattle.ruled_database.proofs.Listing.{lacks_rows}
+use Rattle.ruled_database.proofs.Tabling.{lacks_rows}
 use Rattle.ruled_database.proofs.schema.schema_rows.Goals as goal
 
 pub returns-clause-fault : goal.returns-clause-fault

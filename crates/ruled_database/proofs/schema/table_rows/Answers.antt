@@ -2,7 +2,7 @@ use Rattle.std.proofs.Common.{◌≡◌, Some, map, rules}
 use Rattle.csv.specs.Records.{fields_of}
 use Rattle.ruled_database.specs.Listings.{AreListed, LacksEntry, entry_of, find}
 use Rattle.std.specs.Prelude.{IfErr}
-use Rattle.ruled_database.proofs.Listing.{lacks_listed}
+use Rattle.ruled_database.proofs.Tabling.{lacks_listed}
 use Rattle.ruled_database.proofs.schema.table_rows.Goals as goal
 
 pub returns-in-Some-clause-fault : goal.returns-in-Some-clause-fault

@@ -2,8 +2,7 @@ use Rattle.std.proofs.Common.{◌≡◌, ◌∙◌, ℕ, List, ap, subst, arith}
 use Rattle.std.specs.Prelude.{IfErr, IfOk}
 use Rattle.std.proofs.lemmas.List.{take_all}
 use Rattle.csv.specs.Records.{Row as Fields, fields_of, partial_of}
-use Rattle.ruled_database.specs.Values.{LacksTexts}
-use Rattle.ruled_database.specs.Tables.{names_in}
+use Rattle.ruled_database.specs.Tables.{LacksTexts, names_in}
 use Rattle.ruled_database.specs.declared.definition.Column.{Column}
 use Rattle.ruled_database.proofs.Tabling.{text_more}
 use Rattle.ruled_database.proofs.table.names_of.Goals as goal

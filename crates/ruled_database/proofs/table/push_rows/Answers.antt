@@ -3,15 +3,13 @@ use Rattle.std.proofs.lemmas.List.{take_all}
 use Rattle.std.proofs.lemmas.Simd.{map-map}
 use Rattle.csv.specs.Records.{fields_of}
 use Rattle.ruled_database.specs.Files.{page_count}
-use Rattle.ruled_database.specs.Reads.{Read, all}
-use Rattle.ruled_database.specs.Reading.{Gives, stored_of}
+use Rattle.ruled_database.specs.Trees.{Read, all, Gives, stored_of}
 use Rattle.ruled_database.specs.Tables.{GivesRow, shown_row, shown_rows_of}
 use Rattle.ruled_database.specs.declared.definition.Definition.{Definition}
 use Rattle.ruled_database.specs.declared.fault.TableFault.TheVariants.{Damage}
 use Rattle.ruled_database.specs.declared.file.File.{File}
 use Rattle.ruled_database.specs.declared.tree.StoredRow.{StoredRow}
-use Rattle.ruled_database.proofs.Reading.{gives_last, gives_next}
-use Rattle.ruled_database.proofs.Tabling.{adds_all, adds_unread, among}
+use Rattle.ruled_database.proofs.Tabling.{gives_last, gives_next, adds_all, adds_unread, among}
 use Rattle.ruled_database.proofs.table.push_rows.Goals as goal
 
 -- what a list has past its end

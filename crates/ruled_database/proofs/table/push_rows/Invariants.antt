@@ -1,8 +1,7 @@
 use Rattle.std.proofs.Common.{◌≡◌, ℕ, map, take, Ok}
 use Rattle.csv.specs.Records.{fields_of}
 use Rattle.ruled_database.specs.Files.{page_count}
-use Rattle.ruled_database.specs.Reads.{all}
-use Rattle.ruled_database.specs.Reading.{Gives, stored_of}
+use Rattle.ruled_database.specs.Trees.{all, Gives, stored_of}
 use Rattle.ruled_database.specs.Tables.{shown_row}
 use Rattle.ruled_database.specs.declared.tree.StoredRow.{StoredRow}
 use Rattle.ruled_database.proofs.table.push_rows.Given as goal

@@ -1,7 +1,6 @@
 use Rattle.std.proofs.Common.{◌≡◌, [], map, take}
 use Rattle.csv.specs.Records.{fields_of, partial_of}
-use Rattle.ruled_database.specs.Values.{shown_text}
-use Rattle.ruled_database.specs.Tables.{value_in}
+use Rattle.ruled_database.specs.Tables.{shown_text, value_in}
 use Rattle.ruled_database.specs.declared.definition.Column.{Column}
 use Rattle.ruled_database.proofs.table.read_texts.Given as goal
 

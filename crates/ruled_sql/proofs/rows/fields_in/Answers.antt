@@ -3,7 +3,7 @@ use Rattle.std.specs.Prelude.{IfErr, IfOk}
 use Rattle.std.proofs.lemmas.List.{take_all}
 use Rattle.csv.specs.Records.{Row as Fields, fields_of}
 use Rattle.sqlite_value.specs.Value.{owned}
-use Rattle.ruled_database.specs.Values.{shown_text}
+use Rattle.ruled_database.specs.Tables.{shown_text}
 use Rattle.ruled_sql.specs.Answers.{IsFaultOfRow}
 use Rattle.ruled_sql.proofs.Answering.{texts-lack, value_more}
 use Rattle.ruled_sql.proofs.rows.fields_in.Goals as goal

@@ -1,6 +1,6 @@
 use Rattle.std.proofs.Common.{◌≡◌, [], map, take}
 use Rattle.csv.specs.Records.{fields_of, partial_of}
-use Rattle.ruled_database.specs.Values.{shown_text}
+use Rattle.ruled_database.specs.Tables.{shown_text}
 use Rattle.ruled_sql.proofs.rows.fields_in.Given as goal
 
 abbrev pub invariant-loop-at : goal.invariant-loop-at

@@ -1,6 +1,5 @@
 use Rattle.std.proofs.Common.{◌≡◌, ◌≤◌, ℕ, List, Result}
-use Rattle.ruled_database.specs.Reading.{Gives}
-use Rattle.ruled_database.specs.Trees.{chain}
+use Rattle.ruled_database.specs.Trees.{Gives, chain}
 use Rattle.ruled_database.specs.declared.fault.TableFault.{TableFault}
 use Rattle.ruled_database.proofs.overflow.Overflow.read_chain.Given as goal
 

@@ -3,10 +3,8 @@ use Rattle.std.proofs.lemmas.List.{map-append}
 use Rattle.csv.specs.Records.{fields_of}
 use Rattle.sqlite_record.specs.Record.{decode}
 use Rattle.sqlite_value.specs.Order.{Row}
-use Rattle.ruled_database.specs.Values.{encoding_of, in_utf8}
-use Rattle.ruled_database.specs.Reading.{Gives, stored_of}
-use Rattle.ruled_database.specs.Tables.{texts_in, values_of}
-use Rattle.ruled_database.specs.Trees.{record_of}
+use Rattle.ruled_database.specs.Tables.{encoding_of, in_utf8, texts_in, values_of}
+use Rattle.ruled_database.specs.Trees.{Gives, stored_of, record_of}
 use Rattle.ruled_database.specs.declared.file.File.{File}
 use Rattle.ruled_database.proofs.Tabling.{gives_old, gives_shown, gives_unread, gives_wrong, widened}
 use Rattle.ruled_database.proofs.table.RowReader.push_row.Goals as goal

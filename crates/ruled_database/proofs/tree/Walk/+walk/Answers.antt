@@ -1,13 +1,11 @@
 use Rattle.std.proofs.Common.{◌≡◌, ◌∙◌, ◌-◌, ℕ, List, Some, Err, Ok, Result, map, inl, ap₂, subst, arith}
 use Rattle.sqlite_format.specs.declared.kind.Tree.{Tree}
 use Rattle.ruled_database.specs.Files.{cell_at, page_of}
-use Rattle.ruled_database.specs.Reads.{Read, all}
+use Rattle.ruled_database.specs.Trees.{Read, all, Gives, stored_of, Stored, rows_at, rows_below, rows_of_child}
 use Rattle.std.specs.List.{range_with_len}
-use Rattle.ruled_database.specs.Reading.{Gives, stored_of}
-use Rattle.ruled_database.specs.Trees.{Stored, rows_at, rows_below, rows_of_child}
 use Rattle.ruled_database.specs.declared.fault.TableFault.{TableFault}
 use Rattle.ruled_database.specs.declared.file.File.{File}
-use Rattle.ruled_database.proofs.Reading.{gives_more, gives_cell, gives_no_cell, gives_no_page, gives_no_row, gives_rows, handed_on, none_at_zero}
+use Rattle.ruled_database.proofs.Tabling.{gives_more, gives_cell, gives_no_cell, gives_no_page, gives_no_row, gives_rows, handed_on, none_at_zero}
 use Rattle.ruled_database.proofs.tree.Walk.+walk.Goals as goal
 
 pub read_cell-returns-in_err-read_child-clause-rows : goal.read_cell-returns-in_err-read_child-clause-rows

@@ -1,9 +1,7 @@
 use Rattle.std.proofs.Common.{◌≡◌, ℕ, ◌+◌, ◌-◌, ◌*◌, map, Ok}
 use Rattle.std.specs.List.{range_with_len}
 use Rattle.ruled_database.specs.Files.{page_of}
-use Rattle.ruled_database.specs.Reads.{all}
-use Rattle.ruled_database.specs.Reading.{Gives, stored_of}
-use Rattle.ruled_database.specs.Trees.{rows_at, rows_below}
+use Rattle.ruled_database.specs.Trees.{all, Gives, stored_of, rows_at, rows_below}
 use Rattle.ruled_database.proofs.tree.Walk.+walk.Given as goal
 
 abbrev pub decreases-read_rows : goal.decreases-read_rows
