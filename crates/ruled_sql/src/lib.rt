@@ -7,10 +7,8 @@ mod fault;
 mod filled;
 mod lack;
 mod number;
-mod refusal;
 mod rows;
 mod statements;
 
-pub use crate::fault::{QueryFault, SqlFault};
-pub use crate::refusal::Refusal;
+pub use crate::fault::{QueryFault, Refusal, SqlFault};
 pub use crate::rows::{query_rows, query_table};
