@@ -3,7 +3,7 @@ use Rattle.std.proofs.Common.{◌≡◌, ℕ, ◌-◌, ◌<◌, ◌≤◌, true,
 use Rattle.std.proofs.lemmas.Bool.Decides.{nat_tests}
 use Rattle.pg_layout.specs.Text.{Text, width_of, lines_of, text_width_of, greatest, first_line_of, first_of_lines}
 use Rattle.pg_fit.specs.Wrapping.{fits}
-use Rattle.pg_fit.specs.Cutting.{held, beginning, cut_line, cut_text}
+use Rattle.pg_fit.specs.Cutting.{held, beginning, cut_line, cut_text, held_before, kept_front, cut_behind, cut_away_line, ending, cut_away_text}
 use Rattle.std.specs.Int.{is_in_range}
 use Rattle.std.specs.List.{slice_range, list_all, concat, join_with_byte}
 use Rattle.std.specs.Str.{IsUtf8, IsCharBoundary, encode_utf8_all}
@@ -23,7 +23,6 @@ use Rattle.unicode_segmentation.proofs.SegmentsLemmas.{concat-segments}
 use Rattle.pg_fit.proofs.LawsOfTexts.{NoFeeds, NoFeeds-append, NoFeeds-first, NoFeeds-rest, IsLine, EachLine, EachNoFeeds, lines_of-lines, lines_of-some, encode-lacks, lacks-feeds, split-joined}
 use Rattle.std.proofs.lemmas.List.Folds.{drop_split, list_all-append}
 use Rattle.unicode_segmentation.proofs.TextLemmas.{slice_range_split, length-slice_range}
-use Rattle.pg_fit.specs.CuttingAway.{held_before, kept_front, cut_behind, cut_away_line, ending, cut_away_text}
 use Rattle.pg_fit.specs.Inside.{adds_up}
 use Rattle.pg_fit.specs.declared.cutting_away.Kept.{Kept}
 use Rattle.pg_fit.specs.declared.cutting_away.Kept.TheVariants.{End, BothEnds}

@@ -5,4 +5,3 @@ pub mod LawsOfCuts
 pub mod LawsOfTexts
 pub mod LawsOfControls
 pub mod OverlaidTexts
-pub mod PrintableLines

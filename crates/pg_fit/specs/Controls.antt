@@ -1,5 +1,5 @@
--- Control characters as characters that are seen.
-use Rattle.std.specs.Prelude.{ℕ, ◌+◌, ◌==◌, ◌&&◌, ◌||◌, nat_lt, not, Bool, map, chars, if◌then◌else◌}
+-- Control characters as characters that are seen, and the printable ones of ASCII.
+use Rattle.std.specs.Prelude.{ℕ, ◌+◌, ◌==◌, ◌&&◌, ◌||◌, nat_lt, not, Bool, map, chars, if◌then◌else◌, ◌≡◌, ◌≤◌, ◌<◌, true, slice_index}
 use Rattle.std.specs.Int.{is_in_range}
 use Rattle.std.specs.Str.{encode_utf8_all}
 use Rattle.pg_layout.specs.Text.{Text}
@@ -28,3 +28,13 @@ sign_of c =
 -- a text in which control characters are seen
 unfoldable pub visible_text : Text → Text
 visible_text text = encode_utf8_all (map sign_of (chars text))
+
+-- ---- printable characters of ASCII
+
+-- a byte that is such a character
+abbrev pub is_printable : ℕ → Bool
+is_printable b = is_in_range 0x20 0x7E b
+
+-- the bytes of a text from a place up to another are such
+abbrev pub ArePrintable : Text → ℕ → ℕ → Type 0
+ArePrintable text from to = (k : ℕ) → from ≤ k → k < to → is_printable (slice_index text k) ≡ true

@@ -1,9 +1,7 @@
 pub mod Wrapping
 pub mod Cutting
-pub mod CuttingAway
 pub mod Controls
 pub mod Escapes
-pub mod Printable
 pub mod Rows
 pub mod Narrowing
 pub mod Overlaid

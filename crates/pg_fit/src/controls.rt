@@ -2,8 +2,7 @@
 
 ghost use Rattle.std.specs.Prelude.{◌≡◌, ◌+◌, ◌≤◌, true, length, IsTrue, IfOk, string_bytes, not, chars};
 ghost use Rattle.std.specs.List.{list_all};
-ghost use Rattle.pg_fit.specs.Controls.{is_hidden, is_control, sign_of, visible_text};
-ghost use Rattle.pg_fit.specs.Printable.{is_printable, ArePrintable};
+ghost use Rattle.pg_fit.specs.Controls.{is_hidden, is_control, sign_of, visible_text, is_printable, ArePrintable};
 
 use std::alloc::{AllocError, Allocator};
 use std::simd::prelude::*;

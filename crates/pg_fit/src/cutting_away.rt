@@ -4,7 +4,7 @@ ghost use Rattle.std.specs.Prelude.{◌≡◌, ◌<◌, ◌≤◌, ◌++◌, tru
 ghost use Rattle.std.specs.List.{list_all};
 ghost use Rattle.std.specs.Str.{IsCharBoundary};
 ghost use Rattle.pg_layout.specs.Text.{width_of};
-ghost use Rattle.pg_fit.specs.CuttingAway.{cut_away_line, cut_away_text, ending, kept_front};
+ghost use Rattle.pg_fit.specs.Cutting.{cut_away_line, cut_away_text, ending, kept_front};
 ghost use Rattle.pg_fit.specs.Inside.{adds_up};
 
 use crate::cutting::begin_of;

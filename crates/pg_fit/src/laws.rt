@@ -4,7 +4,7 @@ ghost use Rattle.pg_fit.specs.Laws.{LinesFit, NothingIsLost, OnlySpacesAreLost, 
 ghost use Rattle.pg_fit.specs.Laws.{CutTextsFit, VisibleTextsStay, NoControlsAreLeft, SignsTakeOneColumn, FrontCutsFit, CutAwayLinesFit, CutAwayTextsStay};
 ghost use Rattle.pg_fit.specs.Laws.{CutAwayLinesStand, CutAwayTextsFit, NoEscapesAreLeft, TextsWithoutEscapesStay, LineFeedsStay};
 ghost use Rattle.std.specs.Prelude.{◌≡◌, ◌∷◌, ◌++◌, codes};
-ghost use Rattle.pg_fit.specs.CuttingAway.{cut_away_text};
+ghost use Rattle.pg_fit.specs.Cutting.{cut_away_text};
 ghost use Rattle.pg_fit.specs.declared.cutting_away.Kept.TheVariants.{End, BothEnds};
 ghost use Rattle.pg_fit.specs.Escapes.{without_escapes};
 ghost use Rattle.pg_fit.specs.Narrowing.{FillsTheRoom, WithinRanges, IsEvenHanded, LimitsHold, StayNatural, EndAtLeast};

@@ -3,7 +3,7 @@
 ghost use Rattle.std.specs.Prelude.{◌≡◌, ◌==◌, true, map};
 ghost use Rattle.std.specs.List.{list_all};
 ghost use Rattle.pg_layout.specs.Text.{greatest};
-ghost use Rattle.pg_fit.specs.Printable.{is_printable};
+ghost use Rattle.pg_fit.specs.Controls.{is_printable};
 ghost use Rattle.pg_fit.specs.Wrapping.{widest_character, least_line_width, least_width};
 
 use crate::controls::is_printable;

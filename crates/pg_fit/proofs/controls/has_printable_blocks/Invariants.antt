@@ -1,5 +1,5 @@
 use Rattle.std.proofs.Common.{◌*◌}
-use Rattle.pg_fit.specs.Printable.{ArePrintable}
+use Rattle.pg_fit.specs.Controls.{ArePrintable}
 use Rattle.pg_fit.proofs.controls.has_printable_blocks.Given as goal
 
 abbrev pub invariant-loop-block : goal.invariant-loop-block

@@ -8,7 +8,7 @@ use Rattle.std.proofs.Math.Seq.{drop-length}
 use Rattle.unicode_segmentation.specs.Grapheme.{graphemes}
 use Rattle.unicode_segmentation.specs.Iter.{graphemes_left}
 use Rattle.pg_layout.specs.Text.{width_of}
-use Rattle.pg_fit.specs.CuttingAway.{held_before}
+use Rattle.pg_fit.specs.Cutting.{held_before}
 use Rattle.pg_fit.specs.Inside.{adds_up}
 use Rattle.pg_fit.proofs.FilledLines.{StandFrom, characters-stand, slice_range-all}
 use Rattle.pg_fit.proofs.LawsOfCuts.{stand-last, held_before-more, held_before-end}

@@ -3,7 +3,7 @@ use Rattle.std.specs.List.{list_all}
 use Rattle.std.specs.Str.{IsCharBoundary}
 use Rattle.unicode_segmentation.specs.Iter.{graphemes_left}
 use Rattle.pg_layout.specs.Text.{width_of}
-use Rattle.pg_fit.specs.CuttingAway.{ending, held_before}
+use Rattle.pg_fit.specs.Cutting.{ending, held_before}
 use Rattle.pg_fit.specs.Inside.{adds_up}
 use Rattle.pg_fit.proofs.FilledLines.{StandFrom}
 use Rattle.pg_fit.proofs.cutting_away.begin_of_end.Given as goal

@@ -2,7 +2,7 @@ use Rattle.std.proofs.Common.{◌≡◌, ◌++◌, map}
 use Rattle.std.specs.String.{string_bytes}
 use Rattle.std.specs.List.{join_with_byte}
 use Rattle.pg_layout.specs.Text.{lines_of}
-use Rattle.pg_fit.specs.CuttingAway.{cut_away_line}
+use Rattle.pg_fit.specs.Cutting.{cut_away_line}
 use Rattle.pg_fit.proofs.FilledLines.{fed}
 use Rattle.pg_fit.proofs.cutting_away.cut_away.Given as goal
 

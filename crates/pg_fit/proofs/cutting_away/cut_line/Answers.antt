@@ -1,7 +1,7 @@
 use Rattle.std.proofs.Common.{◌≡◌, ◌<◌, ◌≤◌, ◌++◌, length, drop, sym, ap, ◌∙◌, arith}
 use Rattle.std.specs.String.{string_bytes}
 use Rattle.pg_layout.specs.Text.{width_of}
-use Rattle.pg_fit.specs.CuttingAway.{ending, cut_behind}
+use Rattle.pg_fit.specs.Cutting.{ending, cut_behind}
 use Rattle.pg_fit.proofs.LawsOfCuts.{away-fits, away-tailed, away-tail}
 use Rattle.pg_fit.proofs.cutting_away.cut_line.Goals as goal
 

@@ -4,7 +4,7 @@ use Rattle.unicode_width.proofs.Computing.{unicode_width}
 use Rattle.pg_layout.specs.Text.{lines_of, width_of}
 use Rattle.std.specs.Str.{chars}
 use Rattle.std.proofs.Math.Utf8.{encode}
-use Rattle.pg_fit.specs.CuttingAway.{cut_away_line, cut_away_text}
+use Rattle.pg_fit.specs.Cutting.{cut_away_line, cut_away_text}
 use Rattle.pg_fit.specs.Escapes.{without_escapes}
 use Rattle.pg_fit.proofs.laws.ends_by_example.Goals as goal
 

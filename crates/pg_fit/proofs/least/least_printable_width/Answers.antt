@@ -1,6 +1,6 @@
 use Rattle.std.proofs.Common.{◌≡◌, min, length, sym, ap, ◌∙◌, arith}
 use Rattle.pg_fit.specs.Wrapping.{least_line_width}
-use Rattle.pg_fit.proofs.PrintableLines.{least-anywhere, least-spaces, least-word}
+use Rattle.pg_fit.proofs.LawsOfControls.{least-anywhere, least-spaces, least-word}
 use Rattle.pg_fit.proofs.least.least_printable_width.Goals as goal
 
 pub returns-in-Anywhere : goal.returns-in-Anywhere

@@ -3,8 +3,8 @@ use Rattle.std.proofs.lemmas.Iterator.Consumers.{YieldsList-from_first, fold_fro
 use Rattle.pg_layout.specs.Text.{lines_of}
 use Rattle.pg_fit.specs.Wrapping.{least_line_width}
 use Rattle.std.specs.List.{list_all}
-use Rattle.pg_fit.specs.Printable.{is_printable}
-use Rattle.pg_fit.proofs.PrintableLines.{least-one_line}
+use Rattle.pg_fit.specs.Controls.{is_printable}
+use Rattle.pg_fit.proofs.LawsOfControls.{least-one_line}
 use Rattle.pg_fit.proofs.NarrowedWidths.{least_width-fold}
 use Rattle.pg_fit.proofs.least.least_width.Goals as goal
 

@@ -4,8 +4,8 @@ use Rattle.unicode_segmentation.specs.Grapheme.{graphemes}
 use Rattle.unicode_segmentation.specs.Iter.{graphemes_left}
 use Rattle.pg_layout.specs.Text.{greatest, width_of}
 use Rattle.std.specs.List.{list_all}
-use Rattle.pg_fit.specs.Printable.{is_printable}
-use Rattle.pg_fit.proofs.PrintableLines.{widest-printable}
+use Rattle.pg_fit.specs.Controls.{is_printable}
+use Rattle.pg_fit.proofs.LawsOfControls.{widest-printable}
 use Rattle.pg_fit.proofs.FilledLines.{StandFrom, characters-stand, slice_range-all}
 use Rattle.pg_fit.proofs.least.widest_character.Goals as goal
 
