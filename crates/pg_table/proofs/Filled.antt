@@ -20,13 +20,12 @@ use Rattle.pg_layout.specs.Colors.{Color}
 use Rattle.pg_layout.specs.Records.{text_at}
 use Rattle.pg_config.specs.Config.{Config}
 use Rattle.pg_table.specs.Even.{IsEven}
-use Rattle.pg_table.specs.Filling.{lacking, filled}
+use Rattle.pg_table.specs.Fitted.{lacking, filled, fitted_texts, column_texts, fitted_at, fitted_table}
 use Rattle.pg_table.specs.Natural.{cell_size, natural_size, natural_sizes}
 use Rattle.pg_picture.specs.Picture.{picture}
 use Rattle.pg_picture.proofs.Appending.{Appends-text, Gained-all, Gained-none}
 use Rattle.pg_picture.proofs.Pictures.{picture-none}
 use Rattle.pg_table.specs.Printing.{fault_of, is_spanned, Prints}
-use Rattle.pg_table.specs.Fitted.{fitted_texts, column_texts, fitted_at, fitted_table}
 use Rattle.pg_table.specs.Spanning.{keeps_spans, width_for, widths_from, table_from, spanned_text, spanned_texts, spanned_widths}
 use Rattle.pg_table.specs.declared.overflow.Overflow.{Overflow}
 use Rattle.pg_table.specs.declared.sizes.Axis.TheVariants.{Columns, Rows}

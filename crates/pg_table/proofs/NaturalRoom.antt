@@ -22,8 +22,7 @@ use Rattle.pg_picture.proofs.OwnersOfPlaces.{Among, find_cases}
 use Rattle.pg_picture.proofs.Owners.{is_at-same}
 use Rattle.pg_picture.proofs.FirstPlaces.{misfit_of-totals, fitting_tables_have_none, none_failed, unshown_of-misfit, unshown_of-cell, fits}
 use Rattle.pg_table.specs.Laws.{NaturalTablesHaveRoom, PlainSizes, NaturalHeightsShowAll, table_of_widths}
-use Rattle.pg_table.specs.Natural.{cell_size, cell_at, count, count_cells, is_single, size_of_singles, need_of, natural_size, natural_sizes, natural_table, all_fit, is_sized, cells_fit}
-use Rattle.pg_table.specs.Widening.{widened}
+use Rattle.pg_table.specs.Natural.{cell_size, cell_at, count, count_cells, is_single, size_of_singles, need_of, natural_size, natural_sizes, natural_table, all_fit, is_sized, cells_fit, widened}
 use Rattle.pg_table.specs.declared.needs.Need.{Need}
 use Rattle.pg_table.specs.declared.sizes.Axis.{Axis}
 use Rattle.pg_table.specs.declared.sizes.Axis.TheVariants.{Columns, Rows}

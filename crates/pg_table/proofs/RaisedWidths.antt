@@ -11,9 +11,8 @@ use Rattle.pg_layout.specs.Text.{Text}
 use Rattle.pg_config.specs.Config.{Config}
 use Rattle.pg_picture.specs.Fits.{spans_fit}
 use Rattle.pg_table.specs.Inside.{with_room}
-use Rattle.pg_table.specs.Natural.{cell_size, size_of_singles, need_of, natural_sizes, natural_table}
+use Rattle.pg_table.specs.Natural.{cell_size, size_of_singles, need_of, natural_sizes, natural_table, widened}
 use Rattle.pg_table.specs.Spanning.{keeps_spans, singles_width, width_for, widths_from, table_from}
-use Rattle.pg_table.specs.Widening.{widened}
 use Rattle.pg_table.specs.declared.needs.Need.{Need}
 use Rattle.pg_table.specs.declared.sizes.Axis.TheVariants.{Columns}
 use Rattle.pg_table.proofs.ListedSizes.{size-at}

@@ -12,12 +12,11 @@ use Rattle.pg_config.specs.Spans.{Span, corner, in_span, size_of, span_size, own
 use Rattle.pg_picture.specs.Fits.{span_fits}
 use Rattle.pg_picture.proofs.OwnersOfPlaces.{Among, InOrder, option_cases, find_cases, left_found, left_sound, owner_alone, owner_is, room_among}
 use Rattle.pg_picture.specs.Inside.{columns_or_one}
-use Rattle.pg_table.specs.Natural.{is_single, cell_size, cell_at, count, count_cells, single_size, size_of_singles, need_of, natural_size, is_sized, all_fit, cells_fit}
+use Rattle.pg_table.specs.Natural.{is_single, cell_size, cell_at, count, count_cells, single_size, size_of_singles, need_of, natural_size, is_sized, all_fit, cells_fit, takes}
 use Rattle.std.proofs.lemmas.List.FromFn.{length-range_with_len, get_or-range_with_len}
 use Rattle.pg_layout.specs.Text.{Text}
 use Rattle.pg_config.specs.Config.{Config}
 use Rattle.pg_table.specs.Inside.{IsHuge, HasHuge}
-use Rattle.pg_table.specs.Widening.{takes}
 use Rattle.pg_table.specs.declared.needs.Need.{Need}
 use Rattle.pg_table.specs.declared.sizes.Axis.{Axis}
 use Rattle.pg_table.specs.declared.sizes.Axis.TheVariants.{Columns, Rows}

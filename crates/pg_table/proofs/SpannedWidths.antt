@@ -16,7 +16,7 @@ use Rattle.pg_fit.specs.Narrowing.{limited, narrowed, least_total, none}
 use Rattle.pg_fit.proofs.NarrowedWidths.{fills, within_ranges, limits_hold}
 use Rattle.pg_picture.specs.Fits.{spans_fit}
 use Rattle.pg_table.specs.Fitted.{least_width_at, least_full_width, least_fault}
-use Rattle.pg_table.specs.Natural.{cell_size, natural_size, natural_sizes, is_single, cells_fit}
+use Rattle.pg_table.specs.Natural.{cell_size, natural_size, natural_sizes, is_single, cells_fit, widened}
 use Rattle.pg_table.specs.Overflowing.{beside_columns, limit_of, HasPlainTail}
 use Rattle.pg_table.specs.Spanning.{keeps_spans, least_cell_width, spanned_least_width, are_within, spanned_range, spanned_widths, width_for, table_from, cell_room, spanned_text, spanned_texts, singles_width, room_needed}
 use Rattle.pg_table.specs.declared.overflow.Overflow.{Overflow}
@@ -38,7 +38,6 @@ use Rattle.pg_picture.proofs.OwnersOfPlaces.{Among, InOrder, find_cases, size_of
 use Rattle.pg_table.specs.Inside.{IsBefore, HasRoomTogether, AreFittedTo, HasHugeLeast}
 use Rattle.pg_table.proofs.ToldTables.{width-at}
 use Rattle.pg_picture.proofs.Ranges.{sum_by-part_le}
-use Rattle.pg_table.specs.Widening.{widened}
 use Rattle.pg_table.specs.declared.needs.Need.{Need}
 use Rattle.std.specs.Option.{ok_or}
 use Rattle.std.specs.Result.{result_err}

@@ -28,7 +28,7 @@ use Rattle.std.proofs.lemmas.Str.{chars-nil}
 use Rattle.pg_layout.specs.declared.alignment.AlignmentHorizontal.{AlignmentHorizontal}
 use Rattle.pg_config.specs.LineGlyphs.{with_line_glyphs}
 use Rattle.pg_table.specs.OwnRows.{titled}
-use Rattle.pg_table.specs.Titles.{with_title}
+use Rattle.pg_table.specs.Panels.{with_title, with_inner_line}
 use Rattle.std.specs.List.{list_all, range_with_len}
 use Rattle.unicode_width.proofs.Computing.{unicode_width}
 use Rattle.pg_layout.specs.declared.borders.Borders.{Borders}
@@ -45,7 +45,6 @@ use Rattle.pg_config.specs.Settings.{Settings, setting_of, with_setting}
 use Rattle.pg_config.specs.Spans.{Span}
 use Rattle.pg_config.proofs.Lookups.{value_at-with_some}
 use Rattle.pg_table.specs.Laws.{LooksAreNarrow}
-use Rattle.pg_table.specs.Panels.{with_inner_line}
 
 -- ---- tables at their natural sizes are straight
 

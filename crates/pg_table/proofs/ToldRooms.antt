@@ -9,9 +9,8 @@ use Rattle.pg_config.specs.Config.{Config, has_vertical}
 use Rattle.pg_config.specs.Spans.{Span, corner, in_span, owner, size_of, span_size, rect_rows, rect_columns}
 use Rattle.pg_picture.specs.Fits.{span_fits, all_apart, spans_fit, totals_fit, cell_fits, owner_fits, misfit_of, TableFits}
 use Rattle.pg_picture.proofs.OwnersOfPlaces.{Among, find_cases}
-use Rattle.pg_table.specs.Natural.{is_single, cell_size, is_sized, natural_table, cells_fit}
+use Rattle.pg_table.specs.Natural.{is_single, cell_size, is_sized, natural_table, cells_fit, lacking, widened}
 use Rattle.pg_table.specs.Spanning.{singles_width, room_needed, width_for}
-use Rattle.pg_table.specs.Widening.{lacking, widened}
 use Rattle.pg_table.specs.declared.needs.Need.{Need}
 use Rattle.pg_table.proofs.Widenings.{cells_have_room, no_column_shrinks, enough_stays, sum-le}
 use Rattle.pg_table.proofs.FittedColumns.{greatest-below}

@@ -1,5 +1,5 @@
 -- A table within a width: columns narrowed to it, and the texts that are too wide for them wrapped or cut.
-use Rattle.std.specs.Prelude.{ℕ, Bool, ◌+◌, ◌-◌, ◌^◌, ◌<◌, ◌≤◌, max, nat_lt, not, ◌&&◌, ◌||◌, ◌==◌, List, map, length, sum_by, slice_index, Option, Some, None, if◌then◌else◌}
+use Rattle.std.specs.Prelude.{ℕ, Bool, ◌+◌, ◌-◌, ◌^◌, ◌<◌, ◌≤◌, max, nat_lt, not, ◌&&◌, ◌||◌, ◌==◌, List, map, length, sum_by, slice_index, Option, Some, None, if◌then◌else◌, slice_index_or}
 use Rattle.std.specs.Borrow.{Bor}
 use Rattle.std.specs.List.{range_with_len}
 use Rattle.pg_layout.specs.declared.position.Position.{Position}
@@ -13,8 +13,10 @@ use Rattle.pg_fit.specs.declared.narrowing.ColumnRange.{ColumnRange}
 use Rattle.pg_fit.specs.Narrowing.{limited, narrowed}
 use Rattle.pg_fit.specs.Overlaid.{overlaid}
 use Rattle.pg_picture.specs.Fits.{spans_fit}
-use Rattle.pg_picture.specs.Table.{Table as PrintedTable}
+use Rattle.pg_picture.specs.Table.{Table as PrintedTable, full_width, is_empty}
 use Rattle.pg_table.specs.Natural.{paddings, natural_sizes, all_fit}
+use Rattle.pg_layout.specs.declared.dimension.ConstantDimension.{ConstantDimension}
+use Rattle.pg_table.specs.declared.fitted.filling.FilledTable.{FilledTable}
 unfoldable pub use Rattle.pg_table.specs.Overflowing.{fitted_text}
 pub use Rattle.pg_table.specs.Overflowing.{overflowed, least_overflowed, least_text_width, HasPlainTail, beside_columns, limit_of}
 use Rattle.pg_table.specs.Printing.{Parts, sizes_fault}
@@ -163,3 +165,24 @@ least_at_rows how text t k = least_width_at how t.config (map (λ row. map text 
 
 abbrev pub drawn_rows : {T B A : Type 0} → (T → Text) → FittedTable (Bor (List (List T))) (List (Position × Color)) B A → PrintedTable
 drawn_rows text t = printed_fitted_table (λ r. map (λ row. map text row) r.now) (λ r. columns_of r.now) (λ colors place. color_at place colors) t
+
+-- ---- a table of which one column takes what its lines lack of a width
+
+-- what a line of a table lacks of so many terminal columns; a table without cells has no line
+abbrev pub lacking : ℕ → PrintedTable → ℕ
+lacking total t = if is_empty t then 0 else total - full_width t
+
+-- the table with that much in column `column`, if there is one
+abbrev pub filled : ℕ → ℕ → PrintedTable → PrintedTable
+filled total column t = record t { width = λ k. if (k == column) && nat_lt k t.columns then t.width k + lacking total t else t.width k }
+
+-- a table at listed sizes
+abbrev pub at_sizes : {A : Type 0} → ConstantDimension A → PrintedTable → PrintedTable
+at_sizes d t = record t { width = λ k. slice_index_or d.0.items k 0; height = λ k. slice_index_or d.1.items k 0 }
+
+-- what a filled table draws, and what it draws over the rows of a table
+abbrev pub printed_filled_table : {R C B A : Type 0} → (R → List (List Text)) → (R → ℕ) → (C → Position → Option Color) → FilledTable R C B A → PrintedTable
+printed_filled_table texts columns color t = filled t.width t.column (printed_fitted_table texts columns color t.fitted)
+
+abbrev pub filled_rows : {T B A : Type 0} → (T → Text) → FilledTable (Bor (List (List T))) (List (Position × Color)) B A → PrintedTable
+filled_rows text t = printed_filled_table (λ r. map (λ row. map text row) r.now) (λ r. columns_of r.now) (λ colors place. color_at place colors) t

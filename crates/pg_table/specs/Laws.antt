@@ -15,13 +15,12 @@ use Rattle.pg_config.specs.Settings.{with_setting}
 use Rattle.pg_picture.specs.Fits.{spans_fit, totals_fit, misfit_of}
 use Rattle.pg_picture.specs.Table.{is_empty, Table}
 use Rattle.pg_picture.specs.declared.fits.Misfit.TheVariants.{Spans, Totals}
-use Rattle.pg_table.specs.Natural.{cell_size, cell_at, count_cells, natural_size, natural_sizes, natural_table, all_fit}
+use Rattle.pg_table.specs.Natural.{cell_size, cell_at, count_cells, natural_size, natural_sizes, natural_table, all_fit, lacking, takes, widened}
 use Rattle.pg_table.specs.Even.{IsNarrowLook, are_line_glyphs, is_of_line_glyphs, are_line_fills}
 use Rattle.pg_table.specs.Printing.{ascii_config, with_header_line}
 use Rattle.pg_table.specs.declared.sizes.Axis.{Axis}
 use Rattle.pg_table.specs.declared.sizes.Axis.TheVariants.{Columns, Rows}
 use Rattle.pg_table.specs.declared.needs.Need.{Need}
-use Rattle.pg_table.specs.Widening.{lacking, takes, widened}
 use Rattle.std.specs.Option.{option_map}
 use Rattle.pg_picture.specs.Shown.{unshown_of}
 use Rattle.pg_picture.specs.declared.fits.Misfit as misfit

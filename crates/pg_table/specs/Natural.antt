@@ -1,19 +1,48 @@
 -- A table at its natural sizes: each column as wide as its widest cell, each row as high as its highest one.
-use Rattle.std.specs.Prelude.{ℕ, ◌+◌, ◌-◌, ◌^◌, ◌==◌, ◌&&◌, ◌||◌, not, nat_lt, Bool, List, map, find, length, count_by, slice_index_or, Option, is_none, if◌then◌else◌}
+use Rattle.std.specs.Prelude.{ℕ, zero, suc, ◌+◌, ◌-◌, ◌/◌, ◌%◌, Bool, ◌&&◌, ◌==◌, nat_lt, nat_le, List, map, sum_by, if◌then◌else◌, ◌^◌, ◌||◌, not, find, length, count_by, slice_index_or}
+use Rattle.std.specs.Prelude.{Option, is_none}
 use Rattle.std.specs.List.{range_with_len, list_all}
+use Rattle.pg_layout.specs.Text.{greatest, Text}
+use Rattle.pg_table.specs.declared.needs.Need.{Need}
 use Rattle.pg_layout.specs.declared.position.Position.{Position}
 use Rattle.pg_layout.specs.Colors.{Color}
 use Rattle.pg_layout.specs.Position.{at}
 use Rattle.pg_layout.specs.Records.{text_at}
-use Rattle.pg_layout.specs.Text.{Text, greatest}
 use Rattle.pg_config.specs.Config.{Config, get_padding, get_formatting, has_horizontal, has_vertical}
 use Rattle.pg_config.specs.Spans.{Span, corner, in_span, is_visible}
 use Rattle.pg_picture.specs.Pieces.{shown, widest}
 use Rattle.pg_picture.specs.Table.{Table}
-use Rattle.pg_table.specs.Widening.{widened}
-use Rattle.pg_table.specs.declared.needs.Need.{Need}
 use Rattle.pg_table.specs.declared.sizes.Axis.{Axis}
 use Rattle.pg_table.specs.declared.sizes.Axis.TheVariants.{Columns, Rows}
+
+-- ---- how wide columns are, or how high rows, under cells that take several of them
+
+-- no cell
+abbrev pub nothing : Need
+nothing = record { first = 0; count = 0; size = 0 }
+
+-- share j of n of a number: evenly, and what can't be divided goes to the first ones, one each
+abbrev pub share : ℕ → ℕ → ℕ → ℕ
+share x n j = x / n + (if nat_lt j (x % n) then 1 else 0)
+
+-- what a cell lacks where columns are so wide
+unfoldable pub lacking : (ℕ → ℕ) → Need → ℕ
+lacking size need = need.size - sum_by size (range_with_len need.first need.count)
+
+-- it takes column k
+abbrev pub takes : ℕ → Need → Bool
+takes k need = nat_le need.first k && nat_lt k (need.first + need.count)
+
+-- by how much it widens column k, among the cells of n columns
+unfoldable pub widening : (ℕ → ℕ) → ℕ → ℕ → Need → ℕ
+widening size n k need = if (need.count == n) && takes k need then share (lacking size need) n (k - need.first) else 0
+
+-- the width of column k by the cells that take up to n columns
+unfoldable pub widened : (ℕ → ℕ) → List Need → ℕ → ℕ → ℕ
+widened base needs zero k = base k
+widened base needs (suc n) k = widened base needs n k + greatest (map (widening (widened base needs n) (suc n) k) needs)
+
+-- ---- natural sizes
 
 -- what the paddings of a cell take: at its sides, or above and below
 abbrev pub paddings : Axis → Config → Position → ℕ

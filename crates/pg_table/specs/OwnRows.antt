@@ -1,5 +1,5 @@
 -- A table with rows of its own: its sizes, and the tables that its settings make of it.
-use Rattle.std.specs.Prelude.{ℕ, ◌-◌, ◌++◌, List, map, length, replicate, Option}
+use Rattle.std.specs.Prelude.{ℕ, ◌-◌, ◌++◌, List, map, length, replicate, Option, ◌==◌, ◌&&◌, ◌||◌, ◌≤◌, Bool, nat_lt, if◌then◌else◌}
 use Rattle.pg_layout.specs.declared.alignment.AlignmentHorizontal.{AlignmentHorizontal}
 use Rattle.pg_layout.specs.declared.borders.Borders.{Borders}
 use Rattle.pg_layout.specs.declared.borders.HorizontalLine.{HorizontalLine}
@@ -7,14 +7,15 @@ use Rattle.pg_layout.specs.declared.position.Entity.{Entity}
 use Rattle.pg_layout.specs.Records.{columns_of, text_at}
 use Rattle.pg_layout.specs.Text.{Text, greatest}
 use Rattle.pg_config.specs.Settings.{with_setting}
-use Rattle.pg_table.specs.Panels.{with_span_crossings}
+use Rattle.pg_table.specs.Panels.{with_span_crossings, with_title}
 use Rattle.pg_table.specs.Natural.{natural_sizes}
 use Rattle.pg_table.specs.Printing.{Parts, sizes_fault, with_header_line}
-use Rattle.pg_table.specs.Titles.{with_title}
 use Rattle.pg_table.specs.declared.fault.TableFault.{TableFault}
 use Rattle.pg_table.specs.declared.sizes.Axis.{Axis}
-use Rattle.std.specs.List.{range_with_len}
+use Rattle.std.specs.List.{range_with_len, fold, prefix_len}
 use Rattle.pg_layout.specs.Position.{at}
+use Rattle.std.specs.Str.{bytes_eq}
+use Rattle.pg_config.specs.Spans.{Span, with_row_span}
 
 -- ---- rows made of other rows
 
@@ -57,3 +58,33 @@ titled r side title text t = record t { config = with_title r side title (texts_
 -- with the texts of some cells at this side
 abbrev pub aligned : {T : Type 0} → Entity → AlignmentHorizontal → Parts T → Parts T
 aligned entity side t = record t { config = record t.config { alignment_horizontal = with_setting entity side t.config.alignment_horizontal } }
+
+-- ---- runs of equal texts in a column, each of which becomes one cell
+
+module _ (texts : List (List Text)) (column : ℕ) where
+  -- the text of the column in row k is this one
+  abbrev pub has_text : Text → ℕ → Bool
+  has_text text k = bytes_eq (text_at texts (at k column)) text
+
+  -- how many rows the run has that begins in row r, where the next other text ends it: none if its text is empty or that of the row above
+  abbrev pub run_from : ℕ → ℕ
+  run_from r =
+      if (length (text_at texts (at r column)) == 0) || (nat_lt 0 r && has_text (text_at texts (at r column)) (r - 1)) then 0
+      else prefix_len (has_text (text_at texts (at r column))) (range_with_len r (length texts - r))
+
+  -- the spans with a cell over the run that begins in row r, if it has several rows
+  abbrev pub with_run : List Span → ℕ → List Span
+  with_run spans r = if nat_lt 1 (run_from r) then with_row_span (at r column) (run_from r) spans else spans
+
+  -- and with one over each run, from the first to the last
+  abbrev pub with_runs : List Span → List Span
+  with_runs spans = fold with_run spans (range_with_len 0 (length texts))
+
+-- no row of a column begins a run of several
+abbrev pub HasNoRuns : List (List Text) → ℕ → Type 0
+HasNoRuns texts column = (r : ℕ) → run_from texts column r ≤ 1
+
+-- the table whose runs of equal texts in a column are one cell each. A column that isn't there has none
+abbrev pub merged : {T : Type 0} → ℕ → (T → Text) → Parts T → Parts T
+merged column text t =
+    if nat_lt column (columns_of t.rows) then record t { config = record t.config { spans = with_runs (texts_of text t) column t.config.spans } } else t

@@ -12,9 +12,8 @@ use Rattle.pg_fit.specs.declared.narrowing.ColumnRange.{ColumnRange}
 use Rattle.pg_fit.specs.Narrowing.{limited, narrowed}
 use Rattle.pg_picture.specs.Sizes.{sized}
 use Rattle.pg_picture.specs.Table.{Table, rect_width}
-use Rattle.pg_table.specs.Natural.{paddings, cell_size, is_single, natural_sizes, natural_table}
+use Rattle.pg_table.specs.Natural.{paddings, cell_size, is_single, natural_sizes, natural_table, widened}
 use Rattle.pg_table.specs.Overflowing.{fitted_text, least_text_width, beside_columns, limit_of}
-use Rattle.pg_table.specs.Widening.{widened}
 use Rattle.pg_table.specs.declared.needs.Need.{Need}
 use Rattle.pg_table.specs.declared.overflow.Overflow.{Overflow}
 use Rattle.pg_table.specs.declared.sizes.Axis.TheVariants.{Columns}

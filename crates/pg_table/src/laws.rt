@@ -1,6 +1,6 @@
 //! Laws of natural sizes: the contracts of functions that do nothing are the laws.
 
-ghost use Rattle.pg_table.specs.Html.{TextsOpenNoTag};
+ghost use Rattle.pg_table.specs.Markup.{TextsOpenNoTag};
 ghost use Rattle.pg_table.specs.Laws.{NaturalTablesHaveRoom, TotalsHoldSizes, PlainSizes, LooksAreNarrow, CellsHaveRoom, NoColumnShrinks, NoColumnPassesItsCells, EnoughStays, AloneIsExact};
 ghost use Rattle.pg_table.specs.Laws.{NaturalHeightsShowAll};
 

@@ -7,8 +7,7 @@ ghost use Rattle.pg_picture.specs.Picture.{picture};
 ghost use Rattle.pg_picture.specs.Straight.{IsStraight};
 ghost use Rattle.pg_picture.specs.Table.{Known, full_width, is_empty};
 ghost use Rattle.pg_table.specs.Even.{IsEven};
-ghost use Rattle.pg_table.specs.Filling.{at_sizes, filled, lacking, printed_filled_table};
-ghost use Rattle.pg_table.specs.Fitted.{printed_fitted_table, sizes_fitted};
+ghost use Rattle.pg_table.specs.Fitted.{at_sizes, filled, lacking, printed_filled_table, printed_fitted_table, sizes_fitted};
 ghost use Rattle.pg_table.specs.Printing.{fault_of, is_spanned, CanFail, Prints};
 ghost use Rattle.pg_table.specs.declared.sizes.Axis.TheVariants.{Columns, Rows};
 

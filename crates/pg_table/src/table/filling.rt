@@ -3,8 +3,7 @@
 ghost use Rattle.std.specs.Prelude.{◌≡◌, ◌<◌, ◌≤◌, [], length, true, None, Some, Err, IfOk, IsOk};
 ghost use Rattle.pg_layout.specs.Records.{columns_of};
 ghost use Rattle.pg_picture.specs.Table.{full_width, is_empty};
-ghost use Rattle.pg_table.specs.Filling.{filled_rows, filled};
-ghost use Rattle.pg_table.specs.Fitted.{HasPlainTail, fitted_rows, fit_fault_rows, least_width_rows, IsNarrowRows};
+ghost use Rattle.pg_table.specs.Fitted.{filled_rows, filled, HasPlainTail, fitted_rows, fit_fault_rows, least_width_rows, IsNarrowRows};
 ghost use Rattle.pg_table.specs.Printing.{printed_table};
 
 use crate::fault::TableFault;

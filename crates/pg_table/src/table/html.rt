@@ -2,7 +2,7 @@
 
 ghost use Rattle.std.specs.Prelude.{◌≡◌, ◌++◌, ◌<◌, length, string_bytes, IfOk, OnOk};
 ghost use Rattle.pg_layout.specs.Records.{columns_of, text_at};
-ghost use Rattle.pg_table.specs.Html.{class_of, html_cell, html_row, html_table, html_text, reference_of, span_attribute};
+ghost use Rattle.pg_table.specs.Markup.{class_of, html_cell, html_row, html_table, html_text, reference_of, span_attribute};
 ghost use Rattle.pg_table.specs.OwnRows.{texts_of};
 
 use crate::table::Table;
@@ -45,7 +45,7 @@ fn push_table<R: PeekableRecords + ExactRecords, A: Allocator, B: Allocator>(
     html.push_str("</table>")
 }
 
-#[tactic(auto, unfolding(crate::specs::Html::html_row))]
+#[tactic(auto, unfolding(crate::specs::Markup::html_row))]
 fn push_row<R: PeekableRecords + ExactRecords, A: Allocator, B: Allocator>(
     records: &R,
     config: &SpannedConfig<A>,
@@ -63,7 +63,7 @@ fn push_row<R: PeekableRecords + ExactRecords, A: Allocator, B: Allocator>(
 }
 
 // Appends a cell, unless another one covers it.
-#[tactic(auto, unfolding(crate::specs::Html::html_cell))]
+#[tactic(auto, unfolding(crate::specs::Markup::html_cell))]
 fn push_cell<R: PeekableRecords + ExactRecords, A: Allocator, B: Allocator>(
     records: &R,
     config: &SpannedConfig<A>,

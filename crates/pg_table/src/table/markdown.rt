@@ -2,7 +2,7 @@
 
 ghost use Rattle.std.specs.Prelude.{◌≡◌, ◌++◌, ◌<◌, length, string_bytes, IfOk, OnOk};
 ghost use Rattle.pg_layout.specs.Records.{columns_of, text_at};
-ghost use Rattle.pg_table.specs.Markdown.{delimiter_of, delimiter_row, escape_of, escaped_text, markdown_cell, markdown_lines, markdown_row, markdown_table};
+ghost use Rattle.pg_table.specs.Markup.{delimiter_of, delimiter_row, escape_of, escaped_text, markdown_cell, markdown_lines, markdown_row, markdown_table};
 ghost use Rattle.pg_table.specs.OwnRows.{texts_of};
 
 use crate::table::Table;
@@ -66,7 +66,7 @@ fn push_row<R: PeekableRecords + ExactRecords, A: Allocator, B: Allocator>(
     Ok(())
 }
 
-#[tactic(auto, unfolding(crate::specs::Markdown::markdown_row))]
+#[tactic(auto, unfolding(crate::specs::Markup::markdown_row))]
 fn push_cells<R: PeekableRecords + ExactRecords, A: Allocator, B: Allocator>(
     records: &R,
     config: &SpannedConfig<A>,
@@ -84,7 +84,7 @@ fn push_cells<R: PeekableRecords + ExactRecords, A: Allocator, B: Allocator>(
 }
 
 // Appends a cell, which is empty if another one covers it.
-#[tactic(auto, unfolding(crate::specs::Markdown::markdown_cell))]
+#[tactic(auto, unfolding(crate::specs::Markup::markdown_cell))]
 fn push_cell<R: PeekableRecords + ExactRecords, A: Allocator, B: Allocator>(
     records: &R,
     config: &SpannedConfig<A>,
@@ -104,7 +104,7 @@ fn push_cell<R: PeekableRecords + ExactRecords, A: Allocator, B: Allocator>(
 }
 
 // Appends the row of the alignments of so many columns.
-#[tactic(auto, unfolding(crate::specs::Markdown::delimiter_row))]
+#[tactic(auto, unfolding(crate::specs::Markup::delimiter_row))]
 fn push_delimiters<A: Allocator, B: Allocator>(
     config: &SpannedConfig<A>,
     columns: usize,

@@ -4,8 +4,7 @@ ghost use Rattle.std.specs.Prelude.{◌≡◌, ◌<◌, ◌≤◌, ◌-◌, ℕ,
 ghost use Rattle.std.specs.List.{prefix_len, range_with_len};
 ghost use Rattle.pg_layout.specs.Records.{columns_of};
 ghost use Rattle.pg_table.specs.Even.{IsNarrowLook};
-ghost use Rattle.pg_table.specs.OwnRows.{texts_of};
-ghost use Rattle.pg_table.specs.Merging.{HasNoRuns, has_text, merged, run_from, with_run, with_runs};
+ghost use Rattle.pg_table.specs.OwnRows.{texts_of, HasNoRuns, has_text, merged, run_from, with_run, with_runs};
 
 use crate::fault::TableFault;
 use crate::table::Table;

@@ -6,7 +6,7 @@ ghost use Rattle.pg_layout.specs.Records.{columns_of};
 ghost use Rattle.pg_layout.specs.Text.{width_of};
 ghost use Rattle.pg_config.specs.Config.{has_horizontal};
 ghost use Rattle.pg_table.specs.OwnRows.{own_sizes_fault, titled};
-ghost use Rattle.pg_table.specs.Titles.{title_glyph, title_room, title_start, with_title_glyphs};
+ghost use Rattle.pg_table.specs.Panels.{title_glyph, title_room, title_start, with_title_glyphs};
 
 use crate::fault::TableFault;
 use crate::table::Table;

@@ -2,7 +2,7 @@ use Rattle.std.proofs.Common.{◌≡◌, ℕ, ◌+◌, ◌<◌, ◌≤◌, List,
 use Rattle.std.proofs.lemmas.List.FromFn.{length-map-range_with_len}
 use Rattle.std.proofs.lemmas.List.Sorted.{All-permutation, IsNonDecreasingBy-from_sort_by_key}
 use Rattle.pg_table.specs.declared.needs.Need.{Need}
-use Rattle.pg_table.specs.Widening.{widened}
+use Rattle.pg_table.specs.Natural.{widened}
 use Rattle.pg_table.proofs.ListedSizes.{seam}
 use Rattle.pg_table.proofs.Widenings.{all-permutation}
 use Rattle.pg_table.proofs.needs.widened.Goals as goal

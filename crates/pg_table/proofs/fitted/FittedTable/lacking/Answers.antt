@@ -1,8 +1,7 @@
 use Rattle.std.proofs.Common.{◌≡◌, ◌-◌, ◌<◌, ◌≤◌, ◌^◌, ℕ, List, false, true, refl, sym, ap, arith, slice_index_or, ◌∙◌}
 use Rattle.pg_picture.specs.Table.{Table, full_width}
 use Rattle.pg_picture.proofs.FittingTables.{totals_facts}
-use Rattle.pg_table.specs.Filling.{lacking}
-use Rattle.pg_table.specs.Fitted.{printed_fitted_table}
+use Rattle.pg_table.specs.Fitted.{lacking, printed_fitted_table}
 use Rattle.pg_table.proofs.Faults.{fault-none}
 use Rattle.pg_table.proofs.Filled.{listed, listed-width}
 use Rattle.pg_table.proofs.ListedSizes.{some-below, none-past}

@@ -3,7 +3,7 @@ use Rattle.std.specs.List.{range_with_len}
 use Rattle.pg_layout.specs.Records.{text_at}
 use Rattle.pg_picture.proofs.OwnersOfPlaces.{InOrder}
 use Rattle.pg_table.specs.Spanning.{least_cell_width}
-use Rattle.pg_table.specs.Widening.{widened}
+use Rattle.pg_table.specs.Natural.{widened}
 use Rattle.pg_table.specs.declared.needs.Need.{Need}
 use Rattle.pg_table.proofs.SpannedWidths.{widened-least, length-singles, corner-huge}
 use Rattle.pg_table.proofs.ToldRooms.{all-fit, needs-some, needs-inside}

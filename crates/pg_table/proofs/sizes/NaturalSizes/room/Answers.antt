@@ -1,8 +1,7 @@
 use Rattle.std.proofs.Common.{◌≡◌, ℕ, ◌+◌, ◌<◌, ◌≤◌, List, length, map, slice_index, All, IfOk, subst, sym, None}
 use Rattle.std.specs.List.{range_with_len}
 use Rattle.pg_table.specs.Inside.{with_room}
-use Rattle.pg_table.specs.Natural.{count}
-use Rattle.pg_table.specs.Widening.{widened}
+use Rattle.pg_table.specs.Natural.{count, widened}
 use Rattle.pg_table.specs.declared.needs.Need.{Need}
 use Rattle.pg_table.proofs.NaturalRoom.{needs_some, needs_inside}
 use Rattle.pg_table.proofs.sizes.NaturalSizes.room.Goals as goal

@@ -4,8 +4,7 @@ use Rattle.std.proofs.lemmas.List.{length-map}
 use Rattle.pg_layout.specs.ColorsMap.{color_at}
 use Rattle.pg_layout.specs.Records.{columns_of}
 use Rattle.pg_picture.specs.Table.{Table, full_width, is_empty}
-use Rattle.pg_table.specs.Filling.{filled}
-use Rattle.pg_table.specs.Fitted.{drawn_rows}
+use Rattle.pg_table.specs.Fitted.{filled, drawn_rows}
 use Rattle.pg_table.proofs.Filled.{fitted-empty}
 use Rattle.pg_table.proofs.table.Table.filled.Goals as goal
 

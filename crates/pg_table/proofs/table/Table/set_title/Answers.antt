@@ -1,6 +1,6 @@
 use Rattle.std.proofs.Common.{◌≡◌, length, map, sym}
 use Rattle.std.proofs.lemmas.List.{length-map}
-use Rattle.pg_table.specs.Titles.{with_title}
+use Rattle.pg_table.specs.Panels.{with_title}
 use Rattle.pg_table.proofs.table.Table.set_title.Goals as goal
 
 pub returns-in-Ok-clause-ok : goal.returns-in-Ok-clause-ok

@@ -1,7 +1,7 @@
 use Rattle.std.proofs.Common.{◌≡◌, ◌++◌, flat_map, string_bytes}
 use Rattle.std.specs.List.{range_with_len}
 use Rattle.pg_layout.specs.Records.{text_at}
-use Rattle.pg_table.specs.Html.{html_row}
+use Rattle.pg_table.specs.Markup.{html_row}
 use Rattle.pg_table.proofs.table.html.push_table.Given as goal
 
 abbrev pub invariant-loop-row : goal.invariant-loop-row

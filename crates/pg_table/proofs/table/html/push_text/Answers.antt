@@ -1,7 +1,7 @@
 use Rattle.std.proofs.Common.{◌++◌, flat_map, sym, ap, ◌∙◌, map-id, string_bytes}
 use Rattle.std.proofs.lemmas.Iterator.{YieldsList-from_chars}
 use Rattle.std.proofs.lemmas.Iterator.Consumers.{YieldsList-end}
-use Rattle.pg_table.specs.Html.{reference_of, html_text}
+use Rattle.pg_table.specs.Markup.{reference_of, html_text}
 use Rattle.pg_table.proofs.table.html.push_text.Goals as goal
 
 pub returns : goal.returns

@@ -2,7 +2,7 @@ use Rattle.std.proofs.Common.{◌≡◌, ◌++◌, flat_map, string_bytes}
 use Rattle.std.specs.List.{range_with_len}
 use Rattle.pg_layout.specs.Position.{at}
 use Rattle.pg_layout.specs.Records.{text_at}
-use Rattle.pg_table.specs.Markdown.{markdown_cell}
+use Rattle.pg_table.specs.Markup.{markdown_cell}
 use Rattle.pg_table.proofs.table.markdown.push_cells.Given as goal
 
 abbrev pub invariant-loop-column : goal.invariant-loop-column

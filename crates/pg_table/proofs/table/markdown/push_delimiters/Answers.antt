@@ -2,7 +2,7 @@ use Rattle.std.proofs.Common.{◌++◌, ap, string_bytes, ◌∙◌}
 use Rattle.pg_layout.specs.declared.position.Position.{Position}
 use Rattle.pg_layout.specs.Position.{at}
 use Rattle.pg_config.specs.Config.{get_alignment_horizontal}
-use Rattle.pg_table.specs.Markdown.{delimiter_of}
+use Rattle.pg_table.specs.Markup.{delimiter_of}
 use Rattle.pg_table.proofs.Html.{one_more}
 use Rattle.pg_table.proofs.table.markdown.push_delimiters.Goals as goal
 

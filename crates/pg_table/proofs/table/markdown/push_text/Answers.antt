@@ -1,7 +1,7 @@
 use Rattle.std.proofs.Common.{◌++◌, flat_map, sym, ap, ◌∙◌, map-id, string_bytes}
 use Rattle.std.proofs.lemmas.Iterator.{YieldsList-from_chars}
 use Rattle.std.proofs.lemmas.Iterator.Consumers.{YieldsList-end}
-use Rattle.pg_table.specs.Markdown.{escape_of, escaped_text}
+use Rattle.pg_table.specs.Markup.{escape_of, escaped_text}
 use Rattle.pg_table.proofs.table.markdown.push_text.Goals as goal
 
 pub returns : goal.returns

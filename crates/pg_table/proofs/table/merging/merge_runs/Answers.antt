@@ -1,6 +1,6 @@
 use Rattle.std.proofs.Common.{sym, ap, ◌∙◌}
 use Rattle.pg_config.specs.Config.{Config}
-use Rattle.pg_table.specs.Merging.{with_run}
+use Rattle.pg_table.specs.OwnRows.{with_run}
 use Rattle.pg_table.proofs.Merging.{one_run_more}
 use Rattle.pg_table.proofs.table.merging.merge_runs.Goals as goal
 

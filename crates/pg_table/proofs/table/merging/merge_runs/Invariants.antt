@@ -1,7 +1,7 @@
 use Rattle.std.proofs.Common.{◌≡◌}
 use Rattle.std.specs.List.{fold, range_with_len}
 use Rattle.pg_table.specs.Even.{IsNarrowLook}
-use Rattle.pg_table.specs.Merging.{with_run}
+use Rattle.pg_table.specs.OwnRows.{with_run}
 use Rattle.pg_table.proofs.table.merging.merge_runs.Given as goal
 
 -- the runs that begin in the rows so far

@@ -1,5 +1,5 @@
 use Rattle.std.proofs.Common.{◌≡◌, ◌≤◌, ◌+◌, ◌-◌}
-use Rattle.pg_table.specs.Merging.{has_text}
+use Rattle.pg_table.specs.OwnRows.{has_text}
 use Rattle.std.specs.List.{prefix_len, range_with_len}
 use Rattle.pg_table.proofs.table.merging.rows_with.Given as goal
 

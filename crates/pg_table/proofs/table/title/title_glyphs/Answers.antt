@@ -1,7 +1,7 @@
 use Rattle.std.proofs.Common.{rules, Ok}
 use Rattle.std.proofs.lemmas.Iterator.{YieldsList-from_chars, YieldsList-from_map, items_from_collect}
 use Rattle.std.proofs.lemmas.Iterator.Consumers.{YieldsList-at}
-use Rattle.pg_table.specs.Titles.{title_glyph}
+use Rattle.pg_table.specs.Panels.{title_glyph}
 use Rattle.pg_table.proofs.table.title.title_glyphs.Goals as goal
 
 pub returns : goal.returns

@@ -2,8 +2,7 @@ use Rattle.std.proofs.Common.{◌≡◌, ◌++◌, refl, sym, ap, ◌∙◌, app
 use Rattle.pg_picture.specs.Table.{Table, Known}
 use Rattle.pg_picture.proofs.FittingTables.{misfit-empty}
 use Rattle.pg_picture.proofs.Pictures.{picture-none}
-use Rattle.pg_table.specs.Filling.{printed_filled_table}
-use Rattle.pg_table.specs.Fitted.{printed_fitted_table}
+use Rattle.pg_table.specs.Fitted.{printed_filled_table, printed_fitted_table}
 use Rattle.pg_table.proofs.Filled.{prints-none, straight, even}
 use Rattle.pg_table.proofs.fitted.filling.FilledTable.print.Goals as goal
 
