@@ -115,3 +115,6 @@ module _ (config : Config) (texts : List (List Text)) (columns : ℕ) where
       sizes-numbers config texts columns (fit-passes _ _ order.fit)
       (and_from (all_fit (natural_sizes Columns config texts columns) && all_fit (natural_sizes Rows config texts columns)) (cells_fit config (text_at texts) (length texts) columns)
       (and_from (all_fit (natural_sizes Columns config texts columns)) (all_fit (natural_sizes Rows config texts columns)) wide high) all)
+
+-- without cells nothing is wrong
+pub ruleset empty_faults = (fault-empty)

@@ -23,8 +23,7 @@ use Rattle.pg_table.specs.Natural.{paddings, cell_size, natural_size, natural_si
 use Rattle.pg_table.specs.Inside.{HasPlainWidths, plain_full_width, plain_size}
 use Rattle.pg_table.specs.Fitted.{overflowed, fitted_text, least_text_width, least_column_width, beside_columns, limit_of, column_range, column_ranges, column_widths, fitted_at, column_texts}
 use Rattle.pg_table.proofs.ListedSizes.{size-at}
-use Rattle.pg_table.proofs.NaturalRoom.{full_width-is}
-use Rattle.pg_table.proofs.PlainCells.{cell-below, plain-naturals}
+use Rattle.pg_table.proofs.NaturalRoom.{full_width-is, plain-covers, plain-naturals}
 
 -- ---- numbers over a range
 
@@ -228,4 +227,4 @@ module _ (how : Overflow) (total : ℕ) (limits : List ℕ) (config : Config) (t
 
   -- a cell in a column that isn't narrowed has room
   pub cell-wide : Plain → (p : Position) → p.row < length texts → p.col < columns → slice_index naturals p.col ≤ slice_index widths p.col → paddings Columns config p + widest (get_formatting config p) (text_at texts p) ≤ slice_index widths p.col
-  cell-wide plain p h k wide = omega (arith, wide, natural-at plain p.col k, cell-below Columns config (text_at texts) (length texts) p.col p.row h)
+  cell-wide plain p h k wide = omega (arith, wide, natural-at plain p.col k, plain-covers Columns config (text_at texts) (length texts) p.col p.row h)

@@ -21,7 +21,7 @@ use Rattle.pg_table.proofs.FittedColumns.{same-listed, length-fitted}
 use Rattle.pg_table.proofs.FittedPlaces.{texts-are, table-is, table-narrow, columns-limited}
 use Rattle.pg_table.proofs.SpannedWidths.{width-is, full-is, rooms, sum-widths, width-limited, least-kept, full-kept}
 use Rattle.pg_table.proofs.Widenings.{sum-same}
-use Rattle.pg_table.proofs.RaisedWidths.{plain-table}
+use Rattle.pg_table.proofs.ToldTables.{plain-table}
 use Rattle.pg_table.proofs.ToldRooms.{HaveRoom}
 
 module _ (how : Overflow) (total : ℕ) (limits : List ℕ) (config : Config) (texts : List (List Text)) (columns : ℕ) where

@@ -7,7 +7,7 @@ use Rattle.std.proofs.lemmas.List.{flat_map_more}
 use Rattle.pg_layout.specs.Text.{Text}
 use Rattle.pg_fit.proofs.LawsOfTexts.{Lacks, encode-lacks}
 use Rattle.pg_table.specs.Markup.{reference_of, html_text, TextsOpenNoTag}
-use Rattle.pg_table.proofs.Merging.{range-more}
+use Rattle.pg_table.proofs.Rearranged.{range-more}
 
 pub one_more : (f : ℕ → Text) (before : Text) (n : ℕ) → (before ++ flat_map f (range_with_len 0 n)) ++ f n ≡ before ++ flat_map f (range_with_len 0 (n + 1))
 one_more f before n = flat_map_more f before (range_with_len 0 n) n ∙ ap (λ xs. before ++ flat_map f xs) (sym (range-more n))

@@ -1,7 +1,8 @@
--- A table at its natural sizes has room for its cells, shows each line, and has these totals.
-use Rattle.std.proofs.Common.{◌≡◌, ℕ, ◌+◌, ◌-◌, ◌<◌, ◌≤◌, ◌&&◌, ◌==◌, true, false, not, nat_le, cond, List, [], map, length, find, sum_by, count_by, All, refl, sym, ap, ◌∙◌, subst, arith, Option, Some, None, inl, inr, slice_index, ◌⊎◌}
+-- A table at its natural sizes has room for its cells, shows each line, and has these totals; and the size of a column or a row without spans.
+use Rattle.std.proofs.Common.{◌≡◌, ℕ, ◌+◌, ◌-◌, ◌<◌, ◌≤◌, ◌&&◌, ◌==◌, true, false, not, nat_le, cond, List, [], map, length, find, sum_by, count_by, All, refl, sym, ap, ◌∙◌, subst, arith}
+use Rattle.std.proofs.Common.{Option, Some, None, inl, inr, slice_index, ◌⊎◌, ◌||◌, ◌∷◌}
 use Rattle.std.specs.List.{range_with_len, list_all}
-use Rattle.std.proofs.lemmas.Bool.{cases_Bool, and_from, and_parts, or_right, false≢true}
+use Rattle.std.proofs.lemmas.Bool.{cases_Bool, and_from, and_parts, or_right, false≢true, cases_lt}
 use Rattle.std.proofs.lemmas.Bool.Decides.{nat_tests}
 use Rattle.pg_layout.specs.declared.position.Position.{Position}
 use Rattle.pg_layout.specs.Colors.{Color}
@@ -16,23 +17,26 @@ use Rattle.pg_picture.specs.Fits.{TableFits, span_fits, all_apart, spans_fit, to
 use Rattle.pg_picture.specs.Pieces.{Style, style_at, widest, shown}
 use Rattle.pg_picture.specs.Table.{Table, is_empty, rect_width, rect_height, full_width, total_width, rect_marks}
 use Rattle.pg_picture.specs.declared.fits.Misfit.TheVariants.{Spans}
-use Rattle.pg_picture.proofs.FittingTables.{widths_fit, heights_fit, misfit-empty, rect_height-one_row, unshown-empty, cell_shows_all-by_count, rect_inside, rect_width_fits, rect_height_fits}
+use Rattle.pg_picture.proofs.FittingTables.{widths_fit, heights_fit, misfit-empty, rect_height-one_row, unshown-empty, cell_shows_all-by_count, rect_inside, rect_width_fits}
+use Rattle.pg_picture.proofs.FittingTables.{rect_height_fits}
 use Rattle.pg_picture.proofs.MarksOfRectangles.{height_of_rect-sum, rect_height-of_rect}
 use Rattle.pg_picture.proofs.OwnersOfPlaces.{Among, find_cases}
 use Rattle.pg_picture.proofs.Owners.{is_at-same}
 use Rattle.pg_picture.proofs.FirstPlaces.{misfit_of-totals, fitting_tables_have_none, none_failed, unshown_of-misfit, unshown_of-cell, fits}
 use Rattle.pg_table.specs.Laws.{NaturalTablesHaveRoom, PlainSizes, NaturalHeightsShowAll, table_of_widths}
-use Rattle.pg_table.specs.Natural.{cell_size, cell_at, count, count_cells, is_single, size_of_singles, need_of, natural_size, natural_sizes, natural_table, all_fit, is_sized, cells_fit, widened}
+use Rattle.pg_table.specs.Natural.{cell_size, cell_at, count, count_cells, is_single, size_of_singles, need_of, natural_size, natural_sizes, natural_table, all_fit, is_sized, cells_fit}
+use Rattle.pg_table.specs.Natural.{widened, paddings}
 use Rattle.pg_table.specs.declared.needs.Need.{Need}
 use Rattle.pg_table.specs.declared.sizes.Axis.{Axis}
 use Rattle.pg_table.specs.declared.sizes.Axis.TheVariants.{Columns, Rows}
-use Rattle.pg_table.proofs.ListedSizes.{cell-below, natural-with_cells, size-at, all_fit-each, sum-listed}
+use Rattle.pg_table.proofs.ListedSizes.{cell-below, natural-with_cells, size-at, all_fit-each, sum-listed, natural-without_cells}
 use Rattle.pg_table.proofs.Widenings.{cells_have_room, no_column_shrinks, widened-stays, widened-base, sum-same}
 use Rattle.pg_table.proofs.ShownCells.{fits-among, all-among, among-all, size-single, size-corner, IsCorner, shown-cases, sized-from, cells-from}
 use Rattle.std.proofs.lemmas.List.FromFn.{length-map-range_with_len, get_or-map-range_with_len, fill_by_all}
-use Rattle.pg_table.specs.Inside.{with_room}
+use Rattle.pg_table.specs.Inside.{with_room, plain_size, HasPlainWidths}
 use Rattle.pg_picture.specs.Shown.{cell_shows_all, owner_shows_all, misfit_or_cell}
 use Rattle.pg_picture.specs.declared.fits.Misfit.{Misfit}
+use Rattle.pg_layout.proofs.TextLines.{greatest-reaches}
 
 -- ---- a table at its natural sizes has room for its cells
 
@@ -382,3 +386,71 @@ module _ (config : Config) (texts : List (List Text)) (columns : ℕ) (color : P
           | inl totals ↦ absurd (false≢true (sym past ∙ totals-cells totals))
           | inr n ↦ n
         ]
+
+-- ---- the size of a column or a row without spans
+
+-- ---- the size of a column or a row without spans is no less than each of its cells
+
+module _ (axis : Axis) (config : Config) (text : Position → Text) (cells k : ℕ) where
+  pub plain-covers : (j : ℕ) → j < cells → cell_size axis config text (cell_at axis k j) ≤ plain_size axis config text cells k
+  unfolding plain_size
+  plain-covers j h = omega (arith, greatest-reaches (λ i. cell_size axis config text (cell_at axis k i)) 0 cells j (omega arith) (omega (arith, h)))
+
+-- without spans it is the natural size, and so it is where there are no cells
+module _ (axis : Axis) (config : Config) (text : Position → Text) (rows columns k : ℕ) where
+  pub plain-natural : config.spans ≡ [] → 0 < count_cells axis rows columns → plain_size axis config text (count_cells axis rows columns) k ≡ natural_size axis config text rows columns k
+  unfolding plain_size
+  plain-natural none some =
+      omega (arith, greatest-reaches (λ i. cell_size axis config text (cell_at axis k i)) 0 (count_cells axis rows columns) 0 (omega arith) (omega (arith, some)), plain_tables_are_as_they_were axis config text rows columns k none some)
+
+  empty-is : plain_size axis config text 0 k ≡ paddings axis config (cell_at axis k 0)
+  unfolding plain_size
+  empty-is = omega arith
+
+  pub empty-natural : count_cells axis rows columns ≡ 0 → plain_size axis config text (count_cells axis rows columns) k ≡ natural_size axis config text rows columns k
+  empty-natural none = ap (λ n. plain_size axis config text n k) none ∙ empty-is ∙ sym (natural-without_cells axis config text rows columns k none)
+
+-- so are the lists of a table without cells
+module _ (config : Config) (texts : List (List Text)) (columns : ℕ) (none : ((length texts == 0) || (columns == 0)) ≡ true) where
+  pub empty-sizes : (axis : Axis) → map (plain_size axis config (text_at texts) (count_cells axis (length texts) columns)) (range_with_len 0 (count axis (length texts) columns)) ≡ natural_sizes axis config texts columns
+  unfolding natural_sizes
+  empty-sizes Columns =
+      map-below (plain_size Columns config (text_at texts) (length texts)) (natural_size Columns config (text_at texts) (length texts) columns) columns
+      (λ k h. empty-natural Columns config (text_at texts) (length texts) columns k (let z : length texts ≡ 0 = grind (arith, nat_tests, none, h) in z))
+  empty-sizes Rows =
+      map-below (plain_size Rows config (text_at texts) columns) (natural_size Rows config (text_at texts) (length texts) columns) (length texts)
+      (λ k h. empty-natural Rows config (text_at texts) (length texts) columns k (let z : columns ≡ 0 = grind (arith, nat_tests, none, h) in z))
+
+  -- and all cells of one without cells fit
+  pub empty-fits : cells_fit config (text_at texts) (length texts) columns ≡ true
+  empty-fits = cells-from config (text_at texts) (length texts) columns (λ r c h l shown. absurd (no_cells r c h l))
+    where
+      no_cells : (r c : ℕ) → r < length texts → c < columns → ⊥
+      no_cells r c h l = grind (arith, nat_tests, none, h, l)
+
+-- ---- natural widths without spans
+
+pub no-spans : (spans : List Span) → (length spans == 0) ≡ true → spans ≡ []
+no-spans [] h = refl
+no-spans (s ∷ spans) h = let none : length (s ∷ spans) ≡ 0 = grind (arith, nat_tests) in absurd (omega (arith, none))
+
+-- where no span is kept they are the natural ones, and so they are where there are no cells
+module _ (config : Config) (rows columns : ℕ) where
+  pub plain-widths : config.spans ≡ [] → HasPlainWidths config rows columns
+  plain-widths none text k h =
+      elim (cases_lt 0 rows) [
+        | inl some ↦ plain-natural Columns config text rows columns k none some
+        | inr past ↦ empty-natural Columns config text rows columns k (omega (arith, past))
+      ]
+
+  pub empty-widths : ((rows == 0) || (columns == 0)) ≡ true → HasPlainWidths config rows columns
+  empty-widths empty text k h = empty-natural Columns config text rows columns k (let none : rows ≡ 0 = grind (arith, nat_tests, empty, h) in none)
+
+-- so are their lists
+pub plain-naturals : (config : Config) (texts : List (List Text)) (columns : ℕ) → HasPlainWidths config (length texts) columns → map (plain_size Columns config (text_at texts) (length texts)) (range_with_len 0 columns) ≡ natural_sizes Columns config texts columns
+unfolding natural_sizes
+plain-naturals config texts columns plain =
+    map-below (plain_size Columns config (text_at texts) (length texts)) (natural_size Columns config (text_at texts) (length texts) columns) columns (λ k h. plain (text_at texts) k h)
+
+-- tables at natural sizes have room
+pub ruleset room_of_naturals = (natural_tables_have_room, plain_tables_are_as_they_were, all-fit)

@@ -1,15 +1,18 @@
--- Rows made of columns are of one length.
-use Rattle.std.proofs.Common.{◌≡◌, ◌==◌, ℕ, zero, suc, ◌<◌, ◌≤◌, ◌+◌, ◌-◌, max, take, drop, set, replicate, not, nat_lt, true, false, List, [], ◌∷◌, ◌++◌, map, length, get_or, refl, sym, ap, ◌∙◌, arith, None}
-use Rattle.std.specs.List.{fold, position_or_len, range_with_len}
-use Rattle.std.proofs.lemmas.List.{get_or-map, length-map, length-append, length-take, length-drop, length-replicate, map-append, map-set}
+-- Rows made of columns, and runs of equal texts in them.
+use Rattle.std.proofs.Common.{◌≡◌, ◌==◌, ℕ, zero, suc, ◌<◌, ◌≤◌, ◌+◌, ◌-◌, max, take, drop, set, replicate, not, nat_lt, true, false, List, [], ◌∷◌, ◌++◌, map, length, get_or, refl, sym, ap}
+use Rattle.std.proofs.Common.{◌∙◌, arith, None, Bool}
+use Rattle.std.specs.List.{fold, position_or_len, range_with_len, prefix_len}
+use Rattle.std.proofs.lemmas.List.{get_or-map, length-map, length-append, length-take, length-drop, length-replicate, map-append, map-set, map-id}
 use Rattle.std.proofs.lemmas.List.Edits.{map_over_more}
 use Rattle.std.proofs.lemmas.List.FromFn.{get_or-map-range_with_len, length-map-range_with_len, map-range_with_len_more}
-use Rattle.std.proofs.lemmas.List.Sums.{position_or_len_is}
+use Rattle.std.proofs.lemmas.List.Sums.{position_or_len_is, fold_push}
 use Rattle.std.proofs.lemmas.Bool.Decides.{nat_tests}
 use Rattle.pg_layout.specs.Position.{at}
 use Rattle.pg_layout.specs.Records.{ragged_row, text_at}
 use Rattle.pg_layout.specs.Text.{Text, greatest}
 use Rattle.pg_table.specs.OwnRows.{padded, padded_to, transposed}
+
+-- ---- rows made of columns are of one length
 
 -- rows of one length aren't ragged
 even-none : {X : Type 0} (rows : List (List X)) (n : ℕ) → ((k : ℕ) → k < length rows → length (get_or rows k []) ≡ n) → ragged_row rows ≡ None
@@ -90,3 +93,29 @@ padded-measured items filler columns rows measured new is same all =
 
 pub padded-none : {X : Type 0} (filler : X) (rows new : List (List X)) → new ≡ padded filler rows → ragged_row new ≡ None
 padded-none filler rows new is = ap (λ rows. ragged_row rows) is ∙ padded-even filler rows
+
+-- ---- runs of equal texts, one row further
+
+module _ (same : ℕ → Bool) where
+  -- row r has the text, or not
+  pub one_row_more : (r rows : ℕ) → r < rows → same r ≡ true → prefix_len same (range_with_len r (rows - r)) ≡ 1 + prefix_len same (range_with_len (r + 1) (rows - (r + 1)))
+  one_row_more r rows below is =
+      let more : rows - r ≡ suc (rows - (r + 1)) = omega (arith, below) in
+      ap (λ n. prefix_len same (range_with_len r n)) more ∙ rw is refl
+
+  pub no_row_more : (r rows : ℕ) → r < rows → same r ≡ false → prefix_len same (range_with_len r (rows - r)) ≡ 0
+  no_row_more r rows below other =
+      let more : rows - r ≡ suc (rows - (r + 1)) = omega (arith, below) in
+      ap (λ n. prefix_len same (range_with_len r n)) more ∙ rw other refl
+
+  pub no_row_left : (r rows : ℕ) → rows ≤ r → prefix_len same (range_with_len r (rows - r)) ≡ 0
+  no_row_left r rows past =
+      let none : rows - r ≡ 0 = omega (arith, past) in
+      ap (λ n. prefix_len same (range_with_len r n)) none
+
+-- the numbers below n, one more
+pub range-more : (n : ℕ) → range_with_len 0 (n + 1) ≡ range_with_len 0 n ++ n ∷ []
+range-more n = sym (map-id (range_with_len 0 (n + 1))) ∙ map-range_with_len_more (λ (x : ℕ). x) 0 n n (omega arith) ∙ ap (λ xs. xs ++ n ∷ []) (map-id (range_with_len 0 n))
+
+pub one_run_more : {X : Type 0} (f : X → ℕ → X) (x : X) (n : ℕ) → fold f x (range_with_len 0 (n + 1)) ≡ f (fold f x (range_with_len 0 n)) n
+one_run_more f x n = rw (range-more n) (fold_push f x (range_with_len 0 n) n)

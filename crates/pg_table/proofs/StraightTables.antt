@@ -438,3 +438,9 @@ looks-are-narrow = record {
   looks = refl;
   lines = refl;
 }
+
+-- settings after which a look stays narrow
+pub ruleset narrow_settings = (told-borders, told-nothing)
+
+-- titles that change nothing
+pub ruleset untitled_lines = (no_text, untitled-absent, untitled-empty)

@@ -7,7 +7,7 @@ ghost use Rattle.pg_table.specs.Laws.{NaturalHeightsShowAll};
 /// At its natural sizes a table has room for each of its shown cells: only spans and totals can
 /// misfit. If the totals fit, each natural size does. Without spans each column is as wide as its
 /// widest cell, and each row as high as its highest one.
-#[tactic(auto, using(crate::proofs::Rulesets::room_of_naturals))]
+#[tactic(auto, using(crate::proofs::NaturalRoom::room_of_naturals))]
 pub fn natural_tables_have_room()
     ensures room { NaturalTablesHaveRoom }
     ensures sizes { TotalsHoldSizes }
@@ -18,7 +18,7 @@ pub fn natural_tables_have_room()
 /// widest cell of one column, or wider than its widest cell. If no cell lacks room, each stays
 /// unchanged. A cell is filled exactly if no other cell of as many or more columns takes one of its
 /// columns.
-#[tactic(auto, using(crate::proofs::Rulesets::laws_of_widening))]
+#[tactic(auto, using(crate::proofs::Widenings::laws_of_widening))]
 pub fn columns_are_widened_as_needed()
     ensures room { CellsHaveRoom }
     ensures least { NoColumnShrinks }

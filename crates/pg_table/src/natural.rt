@@ -140,7 +140,7 @@ where
     ///
     /// `alloc` provides the memory for the sizes. If it is refused, a table without spans still
     /// reports its totals, and `Memory` only after them; one with a span reports `Memory`.
-    #[tactic(auto, using(crate::proofs::Rulesets::empty_faults))]
+    #[tactic(auto, using(crate::proofs::Faults::empty_faults))]
     pub fn fits<A: Allocator + Copy>(&self, alloc: A) -> Result<(), TableFault>
         ensures ok { IsOk result → fault_of (printed_table_of R.texts R.columns C.color (natural_parts self.now)) ≡ None }
         ensures fault { (fault : TableFault) → result ≡ Err fault → CanFail (printed_table_of R.texts R.columns C.color (natural_parts self.now)) fault }

@@ -76,7 +76,7 @@ impl<T: AsStr + Drop, A: Allocator + Copy> Table<T, A> {
     /// from that of row 0.
     ///
     /// Allocates nothing: `alloc` is kept for later settings. Refused rows are dropped.
-    #[tactic(auto, using(crate::proofs::Rulesets::narrow_settings))]
+    #[tactic(auto, using(crate::proofs::StraightTables::narrow_settings))]
     pub fn new(alloc: A, rows: Vec<Vec<T, A>, A>) -> Result<Table<T, A>, TableFault>
         ensures parts { IfOk result (λ table. table ≡ record { rows = map (λ row. row.items) rows.items; config = ascii_config; colors = [] }) }
         ensures exact { result_err result ≡ option_map TableFault.Ragged (ragged_row (map (λ row. row.items) rows.items)) }

@@ -25,8 +25,7 @@ use Rattle.pg_table.specs.Natural.{cell_size, is_sized, paddings}
 use Rattle.pg_table.specs.Inside.{plain_size}
 use Rattle.pg_table.specs.declared.sizes.Axis.TheVariants.{Columns, Rows}
 use Rattle.pg_table.proofs.Faults.{cells-no_fault}
-use Rattle.pg_table.proofs.NaturalRoom.{map-below}
-use Rattle.pg_table.proofs.PlainCells.{cell-below, plain-naturals, plain-widths}
+use Rattle.pg_table.proofs.NaturalRoom.{map-below, cell-below, plain-naturals, plain-widths}
 use Rattle.pg_table.proofs.ShownCells.{cells-from, sized-from}
 use Rattle.ruled_table.specs.Columns.{drawn_at}
 use Rattle.ruled_table.specs.LentRows.{fields_at, texts_at}

@@ -107,7 +107,7 @@ fn run_from<R: PeekableRecords + ExactRecords>(records: &R, column: usize, row: 
 }
 
 // How many rows from the first one on have this text, up to the first one with another.
-#[tactic(auto, using(crate::proofs::Merging::one_row_more, crate::proofs::Merging::no_row_more, crate::proofs::Merging::no_row_left))]
+#[tactic(auto, using(crate::proofs::Rearranged::one_row_more, crate::proofs::Rearranged::no_row_more, crate::proofs::Rearranged::no_row_left))]
 fn rows_with<R: PeekableRecords + ExactRecords>(
     records: &R,
     text: &str,

@@ -63,7 +63,7 @@ impl<T, A: Allocator> Table<T, A> {
     }
 
     /// Sets the borders of the table ([`Table::with_borders`]). Allocates nothing.
-    #[tactic(auto, using(crate::proofs::Rulesets::narrow_settings))]
+    #[tactic(auto, using(crate::proofs::StraightTables::narrow_settings))]
     pub fn set_borders(&mut self, borders: Borders<char>)
         ensures table { self.new ≡ record self.old { config = record self.old.config { borders = borders } } }
         ensures narrow { IsNarrowLook self.old.config → are_line_glyphs borders ≡ true → IsNarrowLook self.new.config }

@@ -60,7 +60,7 @@ impl<T: AsStr + Drop, A: Allocator + Copy> Table<T, A> {
     }
 
     // Whether a title over row line `row` is seen: it has a character, and the line exists.
-    #[tactic(auto, using(crate::proofs::Rulesets::untitled_lines))]
+    #[tactic(auto, using(crate::proofs::StraightTables::untitled_lines))]
     fn shows_title(&self, row: usize, title: &str) -> bool
         ensures same { result ≡ false → (side : AlignmentHorizontal) → titled row side title.now T.text self.now ≡ self.now }
         ensures empty { title.now ≡ [] → result ≡ false }

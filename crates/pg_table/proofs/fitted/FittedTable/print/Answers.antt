@@ -3,7 +3,7 @@ use Rattle.pg_fit.specs.Overlaid.{overlaid}
 use Rattle.pg_picture.specs.Straight.{IsStraight}
 use Rattle.pg_picture.specs.Table.{Table}
 use Rattle.pg_table.specs.Even.{IsEven}
-use Rattle.pg_table.proofs.RaisedWidths.{same-table}
+use Rattle.pg_table.proofs.ToldTables.{same-table}
 use Rattle.pg_table.proofs.fitted.FittedTable.print.Goals as goal
 
 pub returns-clause-prints : goal.returns-clause-prints

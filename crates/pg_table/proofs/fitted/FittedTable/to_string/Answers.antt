@@ -4,9 +4,8 @@ use Rattle.pg_picture.specs.Picture.{picture}
 use Rattle.pg_picture.specs.Table.{Table, Known}
 use Rattle.pg_table.specs.Fitted.{printed_fitted_table}
 use Rattle.pg_table.specs.Printing.{fault_of, CanFail}
-use Rattle.pg_table.proofs.RaisedWidths.{same-table}
+use Rattle.pg_table.proofs.ToldTables.{same-table, even}
 use Rattle.pg_table.proofs.StraightTables.{even-text}
-use Rattle.pg_table.proofs.ToldTables.{even}
 use Rattle.pg_table.proofs.fitted.FittedTable.to_string.Goals as goal
 
 pub returns-clause-text : goal.returns-clause-text

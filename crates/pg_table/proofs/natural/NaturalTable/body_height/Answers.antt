@@ -10,10 +10,9 @@ use Rattle.pg_picture.specs.Table.{Table}
 use Rattle.pg_table.specs.declared.sizes.Axis.TheVariants.{Rows}
 use Rattle.pg_table.specs.Inside.{plain_size}
 use Rattle.pg_table.proofs.Faults.{fit-passes}
-use Rattle.pg_table.proofs.PlainCells.{plain-natural}
-use Rattle.pg_table.proofs.RaisedWidths.{plain-table}
+use Rattle.pg_table.proofs.NaturalRoom.{plain-natural, size, body_height-is}
+use Rattle.pg_table.proofs.ToldTables.{plain-table}
 use Rattle.pg_table.proofs.Widenings.{sum-same}
-use Rattle.pg_table.proofs.NaturalRoom.{size, body_height-is}
 use Rattle.pg_table.proofs.natural.NaturalTable.body_height.Goals as goal
 
 pub returns : goal.returns

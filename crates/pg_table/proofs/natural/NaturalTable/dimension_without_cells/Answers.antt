@@ -8,8 +8,8 @@ use Rattle.pg_table.specs.declared.fault.TableFault.TheVariants.{Totals}
 use Rattle.pg_table.specs.declared.sizes.Axis.TheVariants.{Columns, Rows}
 use Rattle.pg_table.proofs.Faults.{empty-passes, sizes-past, sizes-numbers, one_fault, no_fault}
 use Rattle.pg_table.proofs.FitFaults.{no-cells}
-use Rattle.pg_table.proofs.PlainCells.{empty-sizes, empty-fits}
-use Rattle.pg_table.proofs.RaisedWidths.{plain-widths}
+use Rattle.pg_table.proofs.NaturalRoom.{empty-sizes, empty-fits}
+use Rattle.pg_table.proofs.ToldTables.{plain-widths}
 use Rattle.pg_table.proofs.natural.NaturalTable.dimension_without_cells.Goals as goal
 
 pub returns-then-not-fit-clause-fault : goal.returns-then-not-fit-clause-fault

@@ -9,7 +9,7 @@ use Rattle.pg_table.specs.declared.fault.TableFault.TheVariants.{Totals}
 use Rattle.pg_table.specs.declared.sizes.Axis.TheVariants.{Columns}
 use Rattle.pg_table.proofs.FitFaults.{kept-parts, same-fault, not-both, fault-empty, fault-totals, fault-none, unkept}
 use Rattle.pg_table.proofs.FittedPlaces.{none-there}
-use Rattle.pg_table.proofs.PlainCells.{no-spans, plain-widths, empty-widths}
+use Rattle.pg_table.proofs.NaturalRoom.{no-spans, plain-widths, empty-widths}
 use Rattle.pg_table.proofs.natural.NaturalTable.fit.Goals as goal
 
 pub returns-then-is_empty-clause-fault : goal.returns-then-is_empty-clause-fault

@@ -11,10 +11,9 @@ use Rattle.pg_picture.specs.Sizes.{if_fits}
 use Rattle.pg_table.specs.declared.sizes.Axis.TheVariants.{Columns}
 use Rattle.pg_table.specs.Inside.{plain_size}
 use Rattle.pg_table.proofs.Faults.{fit-passes}
-use Rattle.pg_table.proofs.PlainCells.{plain-natural}
-use Rattle.pg_table.proofs.RaisedWidths.{plain-table}
+use Rattle.pg_table.proofs.NaturalRoom.{plain-natural, size, full_width-is}
+use Rattle.pg_table.proofs.ToldTables.{plain-table}
 use Rattle.pg_table.proofs.Widenings.{sum-same}
-use Rattle.pg_table.proofs.NaturalRoom.{size, full_width-is}
 use Rattle.pg_table.proofs.natural.NaturalTable.full_width.Goals as goal
 
 pub returns : goal.returns

@@ -5,7 +5,7 @@ use Rattle.pg_config.specs.Config.{Config}
 use Rattle.pg_table.specs.Natural.{all_fit, natural_sizes, cells_fit}
 use Rattle.pg_table.specs.declared.sizes.Axis.TheVariants.{Columns, Rows}
 use Rattle.pg_table.proofs.Faults.{cells-no_fault, empty-passes, fit-passes, sizes-spans, sizes-past, sizes-numbers}
-use Rattle.pg_table.proofs.PlainCells.{empty-sizes, empty-fits}
+use Rattle.pg_table.proofs.NaturalRoom.{empty-sizes, empty-fits}
 use Rattle.pg_table.proofs.natural.NaturalTable.sizes_fault.Goals as goal
 
 pub returns-then-fit : goal.returns-then-fit

@@ -8,7 +8,7 @@ use Rattle.pg_table.specs.Inside.{AreWithin, size_of}
 use Rattle.pg_table.specs.declared.sizes.Axis.TheVariants.{Columns}
 use Rattle.pg_table.proofs.ListedSizes.{none-past, some-below, one-past, all_fit-each, sum-more, sum-below, sum-listed, size-at}
 use Rattle.pg_table.proofs.FittedColumns.{on-true}
-use Rattle.pg_table.proofs.PlainCells.{plain-widths, plain-naturals}
+use Rattle.pg_table.proofs.NaturalRoom.{plain-widths, plain-naturals}
 use Rattle.pg_table.proofs.sizes.NaturalSizes.are_within.Goals as goal
 use Rattle.pg_table.proofs.sizes.NaturalSizes.are_within.Goals.{then-within, else-within}
 

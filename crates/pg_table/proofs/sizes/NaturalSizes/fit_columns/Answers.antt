@@ -7,7 +7,7 @@ use Rattle.pg_table.specs.Inside.{AreFittedBelow}
 use Rattle.pg_table.specs.declared.sizes.Axis.TheVariants.{Columns}
 use Rattle.pg_table.proofs.FittedColumns.{length-naturals, length-widths}
 use Rattle.pg_table.proofs.FittedPlaces.{one-fitted, one-wide}
-use Rattle.pg_table.proofs.PlainCells.{plain-widths, plain-naturals}
+use Rattle.pg_table.proofs.NaturalRoom.{plain-widths, plain-naturals}
 use Rattle.pg_table.proofs.sizes.NaturalSizes.fit_columns.Goals as goal
 use Rattle.pg_table.proofs.sizes.NaturalSizes.fit_columns.Goals.{then-width-index+in_ok-fit_column, else-width-index}
 

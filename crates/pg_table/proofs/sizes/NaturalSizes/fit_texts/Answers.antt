@@ -3,7 +3,7 @@ use Rattle.std.proofs.lemmas.Bool.Decides.{nat_tests}
 use Rattle.pg_fit.specs.Overlaid.{other_text}
 use Rattle.pg_table.proofs.FittedColumns.{widths-natural}
 use Rattle.pg_table.proofs.FittedPlaces.{all-wide}
-use Rattle.pg_table.proofs.PlainCells.{plain-widths}
+use Rattle.pg_table.proofs.NaturalRoom.{plain-widths}
 use Rattle.pg_table.proofs.sizes.NaturalSizes.fit_texts.Goals as goal
 
 pub returns-else-not-are_within-clause-fits : goal.returns-else-not-are_within-clause-fits

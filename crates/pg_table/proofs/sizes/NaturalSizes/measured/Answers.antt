@@ -11,7 +11,7 @@ use Rattle.pg_table.specs.Inside.{with_room}
 use Rattle.pg_table.proofs.Faults.{fit-passes, no_spans}
 use Rattle.pg_table.proofs.FitFaults.{kept-from}
 use Rattle.pg_table.proofs.ListedSizes.{seam}
-use Rattle.pg_table.proofs.RaisedWidths.{listed, plain-widths, raised-widths}
+use Rattle.pg_table.proofs.ToldTables.{listed, plain-widths, raised-widths}
 use Rattle.pg_table.proofs.NaturalRoom.{plain_sizes, widened_sizes}
 use Rattle.pg_table.proofs.ShownCells.{cells-sized, corners-decide, huge-past, singles-sized}
 use Rattle.pg_table.proofs.sizes.NaturalSizes.measured.Goals as goal

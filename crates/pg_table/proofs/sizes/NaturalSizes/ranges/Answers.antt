@@ -9,7 +9,7 @@ use Rattle.pg_table.specs.Fitted.{column_range}
 use Rattle.pg_table.specs.declared.sizes.Axis.TheVariants.{Columns}
 use Rattle.pg_table.proofs.ListedSizes.{each-fits}
 use Rattle.pg_table.proofs.FittedColumns.{least, least-below, length-naturals}
-use Rattle.pg_table.proofs.PlainCells.{plain-widths}
+use Rattle.pg_table.proofs.NaturalRoom.{plain-widths}
 use Rattle.pg_table.proofs.sizes.NaturalSizes.ranges.Goals as goal
 
 pub least_width-requires : goal.least_width-requires

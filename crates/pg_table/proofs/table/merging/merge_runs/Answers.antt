@@ -1,7 +1,7 @@
 use Rattle.std.proofs.Common.{sym, ap, ◌∙◌}
 use Rattle.pg_config.specs.Config.{Config}
 use Rattle.pg_table.specs.OwnRows.{with_run}
-use Rattle.pg_table.proofs.Merging.{one_run_more}
+use Rattle.pg_table.proofs.Rearranged.{one_run_more}
 use Rattle.pg_table.proofs.table.merging.merge_runs.Goals as goal
 
 pub loop-row-preserved : goal.loop-row-preserved
