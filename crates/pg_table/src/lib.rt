@@ -3,7 +3,6 @@
 
 mod fault;
 mod fitted;
-mod heights;
 mod laws;
 mod measured;
 mod narrowing;
@@ -16,12 +15,11 @@ mod table;
 
 pub use crate::fault::TableFault;
 pub use crate::fitted::{FilledTable, FittedTable};
-pub use crate::heights::heights_for;
 pub use crate::laws::{
     columns_are_widened_as_needed, looks_are_narrow, natural_heights_show_all,
     natural_tables_have_room, texts_open_no_tag,
 };
-pub use crate::natural::NaturalTable;
+pub use crate::natural::{NaturalTable, heights_for};
 pub use crate::overflow::Overflow;
 pub use crate::sizes::Axis;
 pub use crate::table::Table;

@@ -1,12 +1,14 @@
-//! A table at its natural sizes, over lent records, settings and colours.
+//! Tables at their natural sizes, and sizes with given widths.
 
-ghost use Rattle.std.specs.Prelude.{◌≡◌, []};
-ghost use Rattle.pg_table.specs.Printing.{natural_parts};
+ghost use Rattle.std.specs.Prelude.{◌≡◌, [], IfOk, Some, None, Err};
+ghost use Rattle.pg_table.specs.Printing.{natural_parts, sizes_fault};
+ghost use Rattle.pg_table.specs.Natural.{natural_sizes};
+ghost use Rattle.pg_table.specs.declared.sizes.Axis.TheVariants.{Rows};
 
 use crate::fault::TableFault;
 use crate::sizes::{Axis, NaturalSizes, plus};
 use pg_config::SpannedConfig;
-use pg_layout::{Colors, ConstantDimension, Dimension, ExactRecords, PeekableRecords};
+use pg_layout::{Colors, ConstantDimension, Dimension, ExactRecords, NoColors, PeekableRecords};
 use pg_peekable::PeekableGrid;
 use pg_picture::fits::{spans_fit, totals_fit};
 use std::alloc::{AllocError, Allocator, Global};
@@ -319,4 +321,36 @@ where
     {
         PeekableGrid::new(self.records, self.config, dimension, self.colors).build(buf)
     }
+}
+
+/// Sizes with these widths, and the natural heights of the rows of these records: a table that fits
+/// them shows each line of its texts. Heights don't depend on widths, since no printer breaks a
+/// text into lines: texts are wrapped beforehand.
+///
+/// ```text
+/// let sizes = heights_for(alloc, &records, &config, vec![in alloc; 12, 40]?)?;
+/// PeekableGrid::new(&records, &config, &sizes, &NoColors).print_whole(&mut buf)?;
+/// ```
+///
+/// The errors are those of [`NaturalTable::natural_dimension`]: `Spans`; `Totals`, also if the
+/// width or height of a cell exceeds `usize::MAX`; and `Memory`. `alloc` provides the memory for
+/// the heights.
+pub fn heights_for<R, B, A>(
+    alloc: A,
+    records: R,
+    config: &SpannedConfig<B>,
+    widths: Vec<usize, A>,
+) -> Result<ConstantDimension<A>, TableFault>
+where
+    R: PeekableRecords + ExactRecords + Copy,
+    B: Allocator,
+    A: Allocator + Copy,
+    ensures widths { IfOk result (λ d. d.0.items ≡ widths.items) }
+    ensures heights { IfOk result (λ d. d.1.items ≡ natural_sizes Rows config.now (R.texts records) (R.columns records)) }
+    ensures fault { (fault : TableFault) → sizes_fault config.now (R.texts records) (R.columns records) ≡ Some fault → result ≡ Err fault }
+    ensures memory { (fault : TableFault) → sizes_fault config.now (R.texts records) (R.columns records) ≡ None → result ≡ Err fault → fault ≡ TableFault.Memory }
+{
+    let mut sizes = NaturalTable::new(records, config, &NoColors).natural_dimension(alloc)?;
+    sizes.0 = widths;
+    Ok(sizes)
 }

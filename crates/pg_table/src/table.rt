@@ -16,9 +16,6 @@ use std::alloc::{AllocError, Allocator, Global};
 use std::convert::AsStr;
 use std::marker::Model;
 
-mod colors;
-mod crossings;
-mod filling;
 mod html;
 mod lines;
 mod markdown;

@@ -1,22 +1,28 @@
-//! Fitted tables of which one column takes what the lines lack of a width.
+//! Tables whose lines fill a width.
 
-ghost use Rattle.std.specs.Prelude.{◌≡◌, ◌+◌, ◌^◌, ◌<◌, ◌++◌, max, length, set, slice_index_or, true, false, None, Err, IfOk, IsOk, OnOk, string_bytes};
+ghost use Rattle.std.specs.Prelude.{◌≡◌, ◌+◌, ◌^◌, ◌<◌, ◌++◌, max, length, set, slice_index_or, true, false, None, Err, IfOk, IsOk, OnOk, string_bytes, ◌≤◌, [], Some};
 ghost use Rattle.pg_picture.specs.Appending.{Appends};
 ghost use Rattle.pg_picture.specs.Fits.{misfit_of};
 ghost use Rattle.pg_picture.specs.Picture.{picture};
 ghost use Rattle.pg_picture.specs.Straight.{IsStraight};
 ghost use Rattle.pg_picture.specs.Table.{Known, full_width, is_empty};
 ghost use Rattle.pg_table.specs.Even.{IsEven};
-ghost use Rattle.pg_table.specs.Fitted.{at_sizes, filled, lacking, printed_filled_table, printed_fitted_table, sizes_fitted};
-ghost use Rattle.pg_table.specs.Printing.{fault_of, is_spanned, CanFail, Prints};
+ghost use Rattle.pg_table.specs.Fitted.{at_sizes, filled, lacking, printed_filled_table, printed_fitted_table, sizes_fitted, filled_rows, HasPlainTail, fitted_rows, fit_fault_rows, least_width_rows, IsNarrowRows};
+ghost use Rattle.pg_table.specs.Printing.{fault_of, is_spanned, CanFail, Prints, printed_table};
 ghost use Rattle.pg_table.specs.declared.sizes.Axis.TheVariants.{Columns, Rows};
+ghost use Rattle.pg_layout.specs.Records.{columns_of};
 
 use crate::fault::TableFault;
-use crate::fitted::FittedTable;
-use pg_layout::{Colors, ConstantDimension, ExactRecords, PeekableRecords, Records};
+use crate::fitted::{FilledTable, FittedTable};
+use crate::overflow::Overflow;
+use crate::table::Table;
+use pg_layout::{
+    Colors, ColorsMap, ConstantDimension, ExactRecords, PeekableRecords, Records, VecRecords,
+};
 use pg_peekable::PeekableGrid;
 use pg_picture::fits::full_width;
 use std::alloc::{AllocError, Allocator, Global};
+use std::convert::AsStr;
 
 /// A fitted table of which one column takes what the lines lack of a width
 /// ([`FittedTable::filled`]).
@@ -192,4 +198,34 @@ fn widen<A: Allocator>(widths: &mut Vec<usize, A>, column: usize, more: usize)
         return;
     }
     widths[column] += more;
+}
+
+impl<T: AsStr + Drop, A: Allocator> Table<T, A> {
+    /// The table with lines of exactly so many terminal columns, including the side margins and the
+    /// column lines: [`Table::within`] this width, and if its lines are narrower, one column,
+    /// counted from 0, is as much wider.
+    ///
+    /// The width is exact if the table has such a column and rows, the tail is printable ASCII and
+    /// ellipses, and [`Table::least_width`] isn't greater. Errors are those of `within`.
+    ///
+    /// ```text
+    /// table.filled(alloc, 60, 1, Overflow::Cut("…"))?.print(alloc, &mut buf)?;
+    /// ```
+    pub fn filled<B: Allocator + Copy>(
+        &self,
+        alloc: B,
+        width: usize,
+        column: usize,
+        how: Overflow,
+    ) -> Result<FilledTable<'_, &VecRecords<T, A>, ColorsMap<A>, A, B>, TableFault>
+        ensures table { IfOk result (λ table. filled_rows T.text table ≡ filled width column (fitted_rows how.entry width [] T.text self.now)) }
+        ensures exact { HasPlainTail how.entry → least_width_rows how.entry T.text self.now ≤ width → 0 < length self.now.rows → column < columns_of self.now.rows
+            → IfOk result (λ table. full_width (filled_rows T.text table) ≡ width) }
+        ensures fault { (fault : TableFault) → fit_fault_rows T.text self.now ≡ Some fault → result ≡ Err fault }
+        ensures memory { (fault : TableFault) → fit_fault_rows T.text self.now ≡ None → result ≡ Err fault → fault ≡ TableFault.Memory }
+        ensures empty { is_empty (printed_table T.text self.now) ≡ true → IsOk result }
+        ensures narrow { fit_fault_rows T.text self.now ≡ None → self.now.config.spans ≡ [] → IsNarrowRows width [] T.text self.now → IsOk result }
+    {
+        Ok(self.within(alloc, width, how)?.filled(width, column))
+    }
 }
