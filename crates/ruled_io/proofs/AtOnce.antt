@@ -9,14 +9,12 @@ use Rattle.std.proofs.KnownBytes.{Appends-nil, Appends-trans, Keeps-refl}
 use Rattle.std.proofs.lemmas.Bool.{false≢true, true≢false}
 use Rattle.std.proofs.lemmas.Bool.Decides.{nat_tests}
 use Rattle.pg_layout.specs.Text.{Text}
-use Rattle.ruled_table.specs.Appended.{HasAppended}
-use Rattle.ruled_table.specs.Blocks.{blocks_fault, blocks_text, record_block, record_fault, records_fault}
-use Rattle.ruled_table.specs.Faults as tables
+use Rattle.ruled_table.specs.RowLines.{HasAppended, begun_text}
+use Rattle.ruled_table.specs.View.{blocks_fault, blocks_text, record_block, record_fault, records_fault}
+use Rattle.ruled_table.specs.Tables as tables
 use Rattle.ruled_table.specs.Columns.{column_fault}
-use Rattle.ruled_table.specs.Layouts.{colored, layout_fault, layout_of, start_fault, whole_text}
+use Rattle.ruled_table.specs.Layouts.{colored, layout_fault, layout_of, start_fault, whole_text, Plan, is_always, is_in_blocks, leaves_columns_out}
 use Rattle.ruled_table.specs.Arranged.{arranged, chosen_fault, chosen_rows, sort_fault}
-use Rattle.ruled_table.specs.Plans.{Plan, is_always, is_in_blocks, leaves_columns_out}
-use Rattle.ruled_table.specs.RowLines.{begun_text}
 use Rattle.ruled_table.specs.View.{all_excess, all_fault, all_text, excess_of, measured_fault, shows_blocks, table_fault, whole_fault, whole_table}
 use Rattle.ruled_table.specs.declared.fault.ViewFault.{ViewFault}
 use Rattle.ruled_table.specs.declared.fault.ViewFault.TheVariants as view

@@ -15,8 +15,7 @@ use Rattle.ruled_csv.proofs.TextFaults.{all-sound}
 use Rattle.ruled_json.specs.Streamed.{LineRules, streamed_line_fault}
 use Rattle.ruled_table.specs.Arranged.{arranged, chosen_rows, ends_of, even, leveled, named, numbered, sort_fault_by, sorted_by_word, tails}
 use Rattle.ruled_table.specs.Columns.{column_fault, drawn_at}
-use Rattle.ruled_table.specs.Layouts.{colored, first_fault, layout_of, start_fault, whole_text}
-use Rattle.ruled_table.specs.Plans.{Plan, with_colors}
+use Rattle.ruled_table.specs.Layouts.{colored, first_fault, layout_of, start_fault, whole_text, Plan, with_colors}
 use Rattle.ruled_table.specs.Shown.{color_at, color_of, field_tint, heads, tint_of}
 use Rattle.ruled_table.specs.View.{all_fault, all_text, table_fault, table_text, whole_fault, whole_table}
 use Rattle.ruled_table.specs.declared.colors.Tint.{Tint}

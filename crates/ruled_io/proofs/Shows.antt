@@ -8,9 +8,8 @@ use Rattle.std.proofs.lemmas.Bool.{cases_Bool, eqb-true, le-ltb, ltb-false, true
 use Rattle.std.proofs.lemmas.List.{nil_from_length, take-append-le}
 use Rattle.pg_layout.specs.Text.{Text}
 use Rattle.ruled_json.specs.Streamed.{LineRules}
-use Rattle.ruled_table.specs.Faults.{is_memory as is_lost}
-use Rattle.ruled_table.specs.Layouts.{colored, first_fault, layout_of}
-use Rattle.ruled_table.specs.Plans.{Plan}
+use Rattle.ruled_table.specs.Tables.{is_memory as is_lost}
+use Rattle.ruled_table.specs.Layouts.{colored, first_fault, layout_of, Plan}
 use Rattle.ruled_table.specs.RowLines.{begun_text}
 use Rattle.ruled_table.specs.View.{excess_of}
 use Rattle.ruled_table.specs.declared.fault.ViewFault.{ViewFault}

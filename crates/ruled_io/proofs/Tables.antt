@@ -8,10 +8,8 @@ use Rattle.std.proofs.lemmas.Bool.{true≢false}
 use Rattle.std.proofs.lemmas.List.{drop_more}
 use Rattle.pg_layout.specs.Text.{Text}
 use Rattle.ruled_json.specs.Streamed.{LineRules}
-use Rattle.ruled_table.specs.Appended.{HasAppended}
-use Rattle.ruled_table.specs.Layouts.{whole_text}
-use Rattle.ruled_table.specs.Plans.{Plan}
-use Rattle.ruled_table.specs.RowLines.{GrowsTo, HasNoRoom, TellsRoom, begun_text}
+use Rattle.ruled_table.specs.RowLines.{HasAppended, GrowsTo, HasNoRoom, TellsRoom, begun_text}
+use Rattle.ruled_table.specs.Layouts.{whole_text, Plan}
 use Rattle.ruled_table.specs.declared.fault.ViewFault.{ViewFault}
 use Rattle.ruled_table.specs.declared.fault.ViewFault.TheVariants as view
 use Rattle.ruled_table.specs.declared.options.Options.{Options}

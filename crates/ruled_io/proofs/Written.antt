@@ -5,10 +5,8 @@ use Rattle.std.proofs.KnownBytes.{Appends-kept, Appends-nil, Appends-trans}
 use Rattle.pg_layout.specs.Text.{Text}
 use Rattle.ruled_io.specs.Steps.{Grows, Nears}
 use Rattle.ruled_io.specs.Output.{Begins}
-use Rattle.ruled_table.specs.Appended.{HasAppended}
-use Rattle.ruled_table.specs.Layouts.{whole_text}
-use Rattle.ruled_table.specs.Plans.{Plan}
-use Rattle.ruled_table.specs.RowLines.{begun_text, lines_of}
+use Rattle.ruled_table.specs.RowLines.{HasAppended, begun_text, lines_of}
+use Rattle.ruled_table.specs.Layouts.{whole_text, Plan}
 use Rattle.ruled_table.specs.declared.options.Options.{Options}
 use Rattle.ruled_table.specs.declared.table_rows.TableRows.{TableRows}
 use Rattle.ruled_table.proofs.RowPictures as pictures

@@ -2,7 +2,7 @@
 use Rattle.std.specs.Prelude.{◌≡◌, ◌⊎◌, ℕ, ◌≤◌, true, false, ⊤, List, [], ◌∷◌, ◌++◌, drop, length, nat_lt, take, Option, Some, None, option_map, Result, Ok, Err, if◌then◌else◌}
 use Rattle.std.specs.Io.KnownBytes.{Appends, Keeps}
 use Rattle.pg_layout.specs.Text.{Text}
-use Rattle.ruled_table.specs.Plans.{Plan}
+use Rattle.ruled_table.specs.Layouts.{Plan}
 use Rattle.ruled_table.specs.RowLines.{HasNoRoom, begun_text}
 use Rattle.ruled_io.specs.Faults.{but_line, but_line_in, fault_of_view, is_early, is_failure, is_memory, is_read}
 use Rattle.ruled_io.specs.Further.{names_columns}

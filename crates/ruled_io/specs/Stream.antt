@@ -5,8 +5,7 @@ use Rattle.std.specs.Io.KnownBytes.{Appends}
 use Rattle.pg_layout.specs.Text.{Text}
 use Rattle.ruled_json.specs.Rows.{Rules}
 use Rattle.ruled_json.specs.Streamed.{LineRules}
-use Rattle.ruled_table.specs.Layouts.{colored, first_fault, layout_of, whole_text}
-use Rattle.ruled_table.specs.Plans.{Plan}
+use Rattle.ruled_table.specs.Layouts.{colored, first_fault, layout_of, whole_text, Plan}
 use Rattle.ruled_table.specs.RowLines.{HasNoRoom, begun_text}
 use Rattle.ruled_table.specs.View.{excess_of}
 use Rattle.ruled_io.specs.Faults.{but_line, is_failure, of_view}

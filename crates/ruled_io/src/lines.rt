@@ -2,8 +2,8 @@
 
 ghost use Rattle.std.specs.Prelude.{◌≡◌, ◌++◌, ◌∷◌, [], ℕ, List, map, option_map, false, IfErr, OnOk};
 ghost use Rattle.csv.specs.Records.{fields_of};
-ghost use Rattle.ruled_table.specs.Appended.{HasAppended};
-ghost use Rattle.ruled_table.specs.Plans.{Plan};
+ghost use Rattle.ruled_table.specs.RowLines.{HasAppended};
+ghost use Rattle.ruled_table.specs.Layouts.{Plan};
 ghost use Rattle.ruled_io.specs.Faults.{but_line_in, is_read};
 ghost use Rattle.ruled_io.specs.Output.{TellsWrite, failure_of};
 ghost use Rattle.ruled_io.specs.Steps.{EndsBelow, FailsIn, WritesRows};

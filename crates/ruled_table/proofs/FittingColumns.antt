@@ -5,7 +5,7 @@ use Rattle.std.proofs.lemmas.Bool.Decides.{nat_tests}
 use Rattle.std.proofs.lemmas.List.FromFn.{get_or-range_with_len, length-range_with_len}
 use Rattle.std.proofs.lemmas.List.Sums.{position_or_len_is, sum_by-append, sum_by-cons}
 use Rattle.pg_config.specs.Config.{Config}
-use Rattle.ruled_table.specs.Omitted.{fitting, line_of, turn}
+use Rattle.ruled_table.specs.Layouts.{fitting, line_of, turn}
 use Rattle.ruled_table.proofs.LentTexts.{range_more}
 
 module _ (config : Config) (widths : List ℕ) (total signs most : ℕ) where

@@ -12,11 +12,10 @@ use Rattle.pg_layout.specs.Text.{Text}
 use Rattle.pg_layout.specs.declared.position.Position.{Position}
 use Rattle.pg_config.specs.Config.{Config}
 use Rattle.pg_fit.specs.Controls.{sign_of, visible_text}
-use Rattle.ruled_table.specs.Blocks.{block_fault, block_of, names_in, places_in, record_block, record_fault, HasNames}
-use Rattle.ruled_table.specs.Columns.{drawn_at, ellipsis}
-use Rattle.ruled_table.specs.Omitted.{abridged}
+use Rattle.ruled_table.specs.View.{block_fault, block_of, names_in, places_in, record_block, record_fault, HasNames}
+use Rattle.ruled_table.specs.Columns.{drawn_at, ellipsis, fields_at, texts_at, pairs_of}
+use Rattle.ruled_table.specs.Layouts.{abridged}
 use Rattle.ruled_table.specs.Shown.{color_beside, color_of, tint_of, escape_of, escaped_text, is_plain, seen_text, shown_row, shown_text, look_config}
-use Rattle.ruled_table.specs.LentRows.{fields_at, texts_at, pairs_of}
 use Rattle.ruled_table.specs.declared.options.Options.{Options}
 use Rattle.ruled_table.specs.declared.blocks.Blocks.{Blocks}
 use Rattle.std.proofs.lemmas.Option.{same_Some, none-some}

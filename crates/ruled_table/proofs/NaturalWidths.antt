@@ -27,9 +27,8 @@ use Rattle.pg_table.specs.declared.sizes.Axis.TheVariants.{Columns, Rows}
 use Rattle.pg_table.proofs.Faults.{cells-no_fault}
 use Rattle.pg_table.proofs.NaturalRoom.{map-below, cell-below, plain-naturals, plain-widths}
 use Rattle.pg_table.proofs.ShownCells.{cells-from, sized-from}
-use Rattle.ruled_table.specs.Columns.{drawn_at}
-use Rattle.ruled_table.specs.LentRows.{fields_at, texts_at}
-use Rattle.ruled_table.specs.Ranges.{are_counted, widest_text}
+use Rattle.ruled_table.specs.Columns.{drawn_at, fields_at, texts_at}
+use Rattle.ruled_table.specs.Bounds.{are_counted, widest_text}
 use Rattle.ruled_table.specs.Shown.{line_in, sided_config}
 use Rattle.ruled_table.specs.Tables.{with_line}
 use Rattle.ruled_table.specs.Widths.{HasSpaces, first_config, natural_fault, natural_widths}

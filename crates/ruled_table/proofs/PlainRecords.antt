@@ -13,8 +13,8 @@ use Rattle.pg_fit.specs.Controls.{is_control}
 use Rattle.pg_fit.specs.Rows.{row_height}
 use Rattle.pg_fit.proofs.LawsOfControls.{visible_texts_stay}
 use Rattle.pg_table.specs.declared.overflow.Overflow.{Overflow}
-use Rattle.ruled_table.specs.Plans.{Plan}
-use Rattle.ruled_table.specs.Points.{pointed_row}
+use Rattle.ruled_table.specs.Layouts.{Plan}
+use Rattle.ruled_table.specs.Sides.{pointed_row}
 use Rattle.ruled_table.specs.Shown.{shown_row, shown_text}
 use Rattle.ruled_table.specs.Widths.{row_within, text_within}
 use Rattle.ruled_table.specs.declared.options.Options.{Options}

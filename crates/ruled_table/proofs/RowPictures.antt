@@ -23,10 +23,9 @@ use Rattle.pg_stream.specs.SizedStreams.{CountsLines}
 use Rattle.pg_stream.proofs.DrawnLines.{length_of_row}
 use Rattle.pg_stream.proofs.PicturesOfRows.{live-make}
 use Rattle.pg_table.specs.declared.overflow.Overflow.{Overflow}
-use Rattle.ruled_table.specs.LentRows.{fields_at, texts_at}
-use Rattle.ruled_table.specs.Layouts.{cells_of, cells_within, heights_of, start_of, table_of, whole_of, whole_text}
-use Rattle.ruled_table.specs.Plans.{Plan}
-use Rattle.ruled_table.specs.Points.{pointed_row}
+use Rattle.ruled_table.specs.Columns.{fields_at, texts_at}
+use Rattle.ruled_table.specs.Layouts.{cells_of, cells_within, heights_of, start_of, table_of, whole_of, whole_text, Plan}
+use Rattle.ruled_table.specs.Sides.{pointed_row}
 use Rattle.ruled_table.specs.RowLines.{HasPrinted, after_rows, begun_of, begun_text, ended, lines_of, next_lines, note_below}
 use Rattle.ruled_table.specs.Shown.{shown_row}
 use Rattle.ruled_table.specs.Widths.{texts_within}

@@ -15,10 +15,10 @@ use Rattle.pg_stream.specs.Printing.{Printing, after_row, printer, row_text}
 use Rattle.pg_stream.specs.SizedStreams.{CountsLines, IsNextHeight}
 use Rattle.pg_stream.proofs.SizedRows.{after_row-by, count-lines, row_text-by}
 use Rattle.ruled_table.specs.Layouts.{cells_of, heights_of, start_of, cells_within, but_last, extents_in, layout_by, layout_of, measured_in, places_in, plan_by, plan_fault, sizes_fault_by}
-use Rattle.ruled_table.specs.Columns.{ellipsis}
-use Rattle.ruled_table.specs.Omitted.{abridged, note_of, shown_columns}
-use Rattle.ruled_table.specs.Plans.{Plan, plan_of}
-use Rattle.ruled_table.specs.Points.{extents_of, pointed_fields, pointed_row, ruler_of}
+use Rattle.ruled_table.specs.Columns.{ellipsis, fields_at, texts_at}
+use Rattle.ruled_table.specs.Layouts.{abridged, note_of, shown_columns}
+use Rattle.ruled_table.specs.Layouts.{Plan, plan_of}
+use Rattle.ruled_table.specs.Sides.{extents_of, pointed_fields, pointed_row, ruler_of}
 use Rattle.ruled_table.specs.declared.points.Extent.{Extent}
 use Rattle.ruled_table.specs.RowLines.{AreHeights, HasPrinted, after_rows, begun_of, begun_text, ended_by, lines_of, next_lines, GrowsTo, TellsRoom}
 use Rattle.ruled_table.specs.Shown.{shown_row, shown_text}
@@ -26,13 +26,12 @@ use Rattle.ruled_table.specs.Widths.{row_within, room_of, text_within, texts_wit
 use Rattle.ruled_table.specs.declared.options.Options.{Options}
 use Rattle.csv.specs.Records.{Row, fields_of}
 use Rattle.pg_table.specs.declared.overflow.Overflow.{Overflow}
-use Rattle.ruled_table.specs.LentRows.{fields_at, texts_at}
 use Rattle.std.specs.Result.{IsErrAnd}
 use Rattle.std.proofs.lemmas.Bool.{true≢false}
 use Rattle.pg_stream.specs.Streams.{OnlyMemory, TellsRow}
 use Rattle.pg_stream.specs.declared.fault.StreamFault.{StreamFault}
 use Rattle.pg_stream.specs.declared.fault.StreamFault.TheVariants as stream
-use Rattle.ruled_table.specs.Faults.{fault_of_stream, is_memory}
+use Rattle.ruled_table.specs.Tables.{fault_of_stream, is_memory}
 use Rattle.ruled_table.specs.declared.fault.ViewFault.{ViewFault}
 use Rattle.ruled_table.specs.declared.fault.ViewFault.TheVariants.{Memory, Totals}
 use Rattle.std.proofs.lemmas.Simd.{map-map}

@@ -9,17 +9,16 @@ use Rattle.pg_picture.specs.Appending.{GainedBeginning}
 use Rattle.pg_picture.specs.Picture.{picture}
 use Rattle.pg_picture.specs.Table.{Known, Table, full_width, total_width}
 use Rattle.ruled_table.specs.Bounds.{bounded_fault, bounded_table}
-use Rattle.ruled_table.specs.Tables.{fault_with, text_with, with_line}
+use Rattle.ruled_table.specs.Tables.{fault_with, text_with, with_line, Tells, is_memory, fault_of_stream}
 use Rattle.ruled_table.specs.declared.bounds.Bounds.{Bounds}
 use Rattle.ruled_table.specs.declared.fault.ViewFault.TheVariants.{Totals, Memory}
 use Rattle.std.specs.Option.{option_or}
 use Rattle.std.specs.Result.{IsErrAnd, MatchResult}
-use Rattle.ruled_table.specs.Faults.{Tells, is_memory, fault_of_stream}
 use Rattle.ruled_table.specs.declared.fault.ViewFault.{ViewFault}
 use Rattle.std.proofs.Math.Seq.{drop-nil}
 use Rattle.ruled_table.specs.Arranged.{arranged, chosen_rows, ends_of, last_of, tails}
 use Rattle.ruled_table.specs.Columns.{column_fault}
-use Rattle.ruled_table.specs.Shown.{heads, limit_of, up_to, line_in, sided_config}
+use Rattle.ruled_table.specs.Shown.{heads, limit_of, up_to, line_in, sided_config, first_named, name_of}
 use Rattle.ruled_table.specs.declared.options.Options.{Options}
 use Rattle.std.proofs.lemmas.Bool.{true≢false, cases_Bool}
 use Rattle.pg_layout.specs.Colors.{Color}
@@ -42,10 +41,8 @@ use Rattle.pg_stream.specs.Printing.{printer}
 use Rattle.pg_stream.specs.SizedStreams.{sized_misfit}
 use Rattle.pg_stream.specs.declared.fault.StreamFault.{StreamFault}
 use Rattle.pg_stream.specs.declared.fault.StreamFault.TheVariants as stream
-use Rattle.ruled_table.specs.Layouts.{start_fault, start_of}
-use Rattle.ruled_table.specs.Plans.{Plan, with_colors}
+use Rattle.ruled_table.specs.Layouts.{start_fault, start_of, Plan, with_colors}
 use Rattle.ruled_table.specs.RowLines.{HasPrinted, after_rows}
-use Rattle.ruled_table.specs.Look.{first_named, name_of}
 use Rattle.ruled_table.specs.declared.look.Look.{Look}
 use Rattle.ruled_table.specs.declared.look.Look.TheVariants.{Sharp, Rounded, Modern, Extended, Ascii, Dots, Psql, Markdown, Blank}
 

@@ -1,8 +1,8 @@
--- The columns that are shown.
-use Rattle.std.specs.Prelude.{◌≡◌, ℕ, ◌+◌, ◌-◌, ◌^◌, ◌==◌, ◌&&◌, not, nat_le, nat_lt, Bool, List, [], ◌∷◌, drop, length, map, position, reverse, slice_get, slice_index_or, nat_eq}
-use Rattle.std.specs.Prelude.{String, string_bytes, Option, Some, None, is_none, option_map, unwrap_or, if◌then◌else◌}
-use Rattle.std.specs.List.{after_first, before_first, ends_with, filter, flat_map, list_any, range_with_len, starts_with}
-use Rattle.std.specs.Option.{option_and_then, option_map_or, option_or}
+-- The columns that are shown, and rows in them.
+use Rattle.std.specs.Prelude.{◌≡◌, ℕ, ◌+◌, ◌-◌, ◌^◌, ◌==◌, ◌&&◌, not, nat_le, nat_lt, Bool, List, [], ◌∷◌, drop, length, map, position, reverse, slice_get, slice_index_or, nat_eq, String}
+use Rattle.std.specs.Prelude.{string_bytes, Option, Some, None, is_none, option_map, unwrap_or, if◌then◌else◌, ◌++◌}
+use Rattle.std.specs.List.{after_first, before_first, ends_with, filter, flat_map, list_any, range_with_len, starts_with, zip}
+use Rattle.std.specs.Option.{option_and_then, option_map_or, option_or, option_to_list}
 use Rattle.std.specs.Str.Parse.{digits_value}
 use Rattle.std.specs.HashMap.{HashMap, get_by}
 use Rattle.std.specs.Borrow.{Bor}
@@ -11,6 +11,12 @@ use Rattle.pg_layout.specs.Text.{Text}
 use Rattle.ruled_table.specs.Numbers.{are_digits}
 use Rattle.ruled_table.specs.declared.fault.ViewFault.{ViewFault}
 use Rattle.ruled_table.specs.declared.fault.ViewFault.TheVariants.{Column}
+use Rattle.csv.specs.Records.{Row, fields_of}
+use Rattle.ruled_table.specs.declared.lent_rows.LentRows.{LentRows}
+use Rattle.ruled_table.specs.declared.paired_rows.PairTexts.{PairTexts}
+use Rattle.ruled_table.specs.declared.paired_rows.PairedRows.{PairedRows}
+
+-- ---- the columns
 
 -- what is said of a column: one word alone is for all
 abbrev pub told_of : {X : Type 0} → List (Option X) → ℕ → Option X
@@ -149,3 +155,30 @@ drawn_at row None = ellipsis
 abbrev pub column_fault : {A : Type 0} → List (String A) → List (List Text) → Option ViewFault
 column_fault names [] = None
 column_fault names (header ∷ rows) = option_map Column (option_or (missing_word names header) (last_word names header))
+
+-- ---- rows whose texts are fields of records
+
+-- the texts of a row in columns with these places
+abbrev pub fields_at : List (Option ℕ) → List Text → List Text
+fields_at places row = map (drawn_at row) places
+
+-- the texts of rows
+abbrev pub texts_at : List (Option ℕ) → List Row → List (List Text)
+texts_at places records = map (λ fields. fields_at places (fields_of fields)) records
+
+abbrev pub texts_of : LentRows → List (List Text)
+texts_of rows = texts_at rows.places.now rows.records.now
+
+-- ---- rows of a name and the text beside it
+
+-- each name, and the text beside it
+abbrev pub pairs_of : List Text → List Text → List (List Text)
+pairs_of names texts = map (λ pair. pair.0 ∷ pair.1 ∷ []) (zip names texts)
+
+-- those of a record's fields
+abbrev pub pairs_in : PairedRows → List (List Text)
+pairs_in rows = pairs_of (fields_at rows.places.now (fields_of rows.names.now)) (fields_at rows.places.now (fields_of rows.fields.now))
+
+-- what is left of a row
+abbrev pub texts_left : PairTexts → List Text
+texts_left row = map (λ text. text.now) (option_to_list row.name ++ option_to_list row.text)

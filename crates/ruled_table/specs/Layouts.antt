@@ -1,27 +1,132 @@
--- What the first rows of a table say of all its rows, and the table of rows within it.
-use Rattle.std.specs.Prelude.{ℕ, ◌-◌, ◌==◌, nat_lt, List, [], ◌∷◌, ◌++◌, map, length, slice_index_or, take, Option, Some, None, is_none, if◌then◌else◌}
+-- What is known of a table before its rows, what the first rows say of all its rows, columns that are left out, and the table of rows within it.
+use Rattle.std.specs.Prelude.{ℕ, ◌+◌, ◌-◌, ◌*◌, ◌/◌, ◌%◌, ◌==◌, ◌&&◌, nat_le, nat_lt, max, min, List, [], ◌∷◌, ◌++◌, codes, decimal, drop, length, map, slice_index, sum_by, take, Option}
+use Rattle.std.specs.Prelude.{Some, None, unwrap_or, if◌then◌else◌, Bool, true, false, is_none, slice_index_or}
+use Rattle.std.specs.List.{position_or_len, range_with_len, list_any}
+use Rattle.pg_layout.specs.Text.{Text}
+use Rattle.pg_config.specs.Config.{Config, count_vertical}
+use Rattle.ruled_table.specs.Columns.{told_of, column_fault, ellipsis, places_of, fields_at}
+use Rattle.ruled_table.specs.Bounds.{widest_text}
+use Rattle.ruled_table.specs.Shown.{look_config, color_at, shown_row}
+use Rattle.ruled_table.specs.declared.bounds.Bounds.{Bounds}
+use Rattle.ruled_table.specs.declared.options.Options.{Options}
+use Rattle.pg_layout.specs.Colors.{Color}
+use Rattle.pg_layout.specs.declared.position.Position.{Position}
+use Rattle.ruled_table.specs.declared.options.Vertical.{Vertical}
+use Rattle.ruled_table.specs.declared.options.Vertical.TheVariants.{Always, IfOmitting, Never}
+use Rattle.ruled_table.specs.declared.points.Extent.{Extent}
 use Rattle.std.specs.Option.{option_or}
 use Rattle.pg_layout.specs.Records.{text_at}
-use Rattle.pg_layout.specs.Text.{Text}
-use Rattle.pg_config.specs.Config.{Config}
 use Rattle.pg_fit.specs.Rows.{row_height}
 use Rattle.pg_picture.specs.Picture.{picture}
 use Rattle.pg_picture.specs.Table.{Table, Unknown}
 use Rattle.pg_stream.specs.Printing.{Printing, printer}
 use Rattle.pg_stream.specs.SizedStreams.{sized_misfit}
 use Rattle.pg_table.specs.declared.overflow.Overflow.{Overflow}
-use Rattle.ruled_table.specs.Columns.{column_fault, ellipsis, places_of}
-use Rattle.ruled_table.specs.Faults.{totals_of}
-use Rattle.ruled_table.specs.LentRows.{fields_at}
-use Rattle.ruled_table.specs.Omitted.{abridged, note_of, shown_columns}
-use Rattle.ruled_table.specs.Plans.{Plan, plan_of, with_colors}
-use Rattle.ruled_table.specs.Points.{extents_of, pointed_row, ruler_of}
-use Rattle.ruled_table.specs.Shown.{color_at, shown_row}
+use Rattle.ruled_table.specs.Tables.{totals_of}
+use Rattle.ruled_table.specs.Sides.{extents_of, pointed_row, ruler_of}
 use Rattle.ruled_table.specs.Widths.{first_config, row_within, widths_fault, widths_of}
 use Rattle.ruled_table.specs.declared.fault.ViewFault.{ViewFault}
 use Rattle.ruled_table.specs.declared.fault.ViewFault.TheVariants.{Totals}
-use Rattle.ruled_table.specs.declared.options.Options.{Options}
-use Rattle.ruled_table.specs.declared.points.Extent.{Extent}
+
+-- ---- columns in the middle that are left out for want of room, and the column of `…` in their place
+
+-- ---- what is left out
+
+-- So many of a list stay: its first ones, and its last ones, of which there is one less where the number is odd. This is between them.
+abbrev pub abridged : {X : Type 0} → ℕ → X → List X → List X
+abridged shown sign xs = take (shown - shown / 2) xs ++ sign ∷ drop (length xs - shown / 2) xs
+
+-- the line below the table, and a line feed
+abbrev pub note_of : ℕ → ℕ → Text
+note_of columns shown = decimal columns ++ (codes " columns, " ++ (decimal shown ++ (codes " shown" ++ 10 ∷ [])))
+
+-- ---- how many stay
+
+-- the width within which columns are left out, if they are: not where several words are each for a column of its own
+abbrev pub omitting_width : Options → Option ℕ
+omitting_width options = if options.is_omitting && (nat_le (length options.sides.items) 1 && nat_le (length options.bounds.limits.items) 1) then options.bounds.width else None
+
+-- The texts of a column have room in this many terminal columns: 12, or fewer where that is their limit.
+abbrev pub most_needed : Bounds → ℕ
+most_needed bounds = min 12 (unwrap_or (told_of bounds.limits.items 0) 12)
+
+-- or in as many as its widest text takes
+abbrev pub needed_width : ℕ → List (List Text) → ℕ → ℕ
+needed_width most rows column = min (widest_text rows column) most
+
+abbrev pub needed_widths : ℕ → List (List Text) → ℕ → List ℕ
+needed_widths most rows columns = map (needed_width most rows) (range_with_len 0 columns)
+
+-- the columns in the order in which they get room: the first one, the last one, the second one, and so on
+abbrev pub turn : ℕ → ℕ → ℕ
+turn columns k = if k % 2 == 0 then k / 2 else columns - 1 - k / 2
+
+-- of columns with texts that need this much room
+module _ (config : Config) (widths : List ℕ) where
+  -- a line of so many, with a space at each side of a text, beside so many columns of `…`
+  abbrev pub line_of : ℕ → ℕ → ℕ
+  line_of signs shown = sum_by (λ k. slice_index widths (turn (length widths) k) + 2) (range_with_len 0 shown) + 3 * signs + count_vertical config (shown + signs)
+
+  -- how many fit within a total, at most so many
+  abbrev pub fitting : ℕ → ℕ → ℕ → ℕ
+  fitting total signs most = position_or_len (λ k. nat_lt total (line_of signs (k + 1))) (range_with_len 0 most)
+
+  -- all, or those that fit beside a `…`, at least one
+  abbrev pub shown_within : ℕ → ℕ
+  shown_within total = if fitting total 0 (length widths) == length widths then length widths else max (fitting total 1 (length widths - 1)) 1
+
+abbrev pub shown_by : Option ℕ → Options → List (List Text) → ℕ → ℕ
+shown_by None options rows columns = columns
+shown_by (Some total) options rows columns = shown_within (look_config options.look) (needed_widths (most_needed options.bounds) rows columns) total
+
+-- how many of the columns of these rows stay
+abbrev pub shown_columns : Options → List (List Text) → ℕ → ℕ
+shown_columns options rows columns = shown_by (omitting_width options) options rows columns
+
+-- ---- what is known of a table before its rows
+
+-- the columns by their places in a row, what the table looks like, how wide its columns are, the line below it, the extents
+-- of fields whose points are below one another, and the colours of its texts
+pub record Plan : Type 0 where
+  pub places : List (Option ℕ)
+  pub config : Config
+  pub width : ℕ → ℕ
+  pub note : Text
+  pub extents : List Extent
+  pub color : Position → Option Color
+
+-- without colours
+abbrev pub plan_of : List (Option ℕ) → Config → (ℕ → ℕ) → Text → List Extent → Plan
+plan_of places config width note extents = record { places = places; config = config; width = width; note = note; extents = extents; color = λ place. None }
+
+abbrev pub with_colors : (Position → Option Color) → Plan → Plan
+with_colors color plan = record plan { color = color }
+
+-- whether columns are left out, so that there is one of `…`
+abbrev pub leaves_columns_out : Plan → Bool
+leaves_columns_out plan = list_any is_none plan.places
+
+abbrev pub is_always : Vertical → Bool
+is_always Never = false
+is_always IfOmitting = false
+is_always Always = true
+
+-- whether rows are shown as blocks in place of their table
+abbrev pub is_in_blocks : Vertical → Plan → Bool
+is_in_blocks Never plan = false
+is_in_blocks IfOmitting plan = leaves_columns_out plan
+is_in_blocks Always plan = true
+
+-- the same without colours, with the widths in a list
+pub record Measures : Type 0 where
+  pub places : List (Option ℕ)
+  pub config : Config
+  pub widths : List ℕ
+  pub note : Text
+  pub extents : List Extent
+
+abbrev pub plan_in : Measures → Plan
+plan_in measures = plan_of measures.places measures.config (λ column. slice_index_or measures.widths column 0) measures.note measures.extents
 
 -- ---- what the first rows say
 

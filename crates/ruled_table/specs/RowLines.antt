@@ -1,21 +1,22 @@
 -- The lines of a table's rows, which are appended one row after another.
-use Rattle.std.specs.Prelude.{◌≡◌, ℕ, ⊤, ◌==◌, nat_lt, Bool, false, List, [], ◌∷◌, ◌++◌, slice_index_or, Result, Ok, Err, if◌then◌else◌}
+use Rattle.std.specs.Prelude.{◌≡◌, ℕ, ⊤, ◌==◌, nat_lt, Bool, false, List, [], ◌∷◌, ◌++◌, slice_index_or, Result, Ok, Err, if◌then◌else◌, true, None, ◌<◌, length, All}
 use Rattle.pg_layout.specs.Text.{Text}
 use Rattle.pg_layout.specs.declared.dimension.ConstantDimension.{ConstantDimension}
 use Rattle.pg_fit.specs.Rows.{row_height}
 use Rattle.pg_stream.specs.Conditions.{RowFits}
 use Rattle.pg_stream.specs.LiveStreams.{Live, Living, living}
 use Rattle.pg_stream.specs.Printing.{Printing, after_row, row_text}
-use Rattle.ruled_table.specs.Faults.{is_memory}
-use Rattle.ruled_table.specs.Layouts.{cells_of, heights_of, start_of}
-use Rattle.ruled_table.specs.Plans.{Plan}
-use Rattle.ruled_table.specs.Points.{pointed_row}
+use Rattle.ruled_table.specs.Tables.{is_memory}
+use Rattle.ruled_table.specs.Layouts.{cells_of, heights_of, start_of, Plan, plan_in, with_colors}
+use Rattle.ruled_table.specs.Sides.{pointed_row}
 use Rattle.ruled_table.specs.Shown.{color_in, shown_row}
 use Rattle.ruled_table.specs.Widths.{row_within}
 use Rattle.ruled_table.specs.declared.colors.TextColors.{TextColors}
 use Rattle.ruled_table.specs.declared.fault.ViewFault.{ViewFault}
 use Rattle.ruled_table.specs.declared.fault.ViewFault.TheVariants.{Totals}
 use Rattle.ruled_table.specs.declared.options.Options.{Options}
+use Rattle.ruled_table.specs.declared.table_rows.TableRows.{TableRows}
+use Rattle.ruled_table.specs.declared.row_lines.RowLines.{RowLines}
 
 -- ---- the lines of rows
 
@@ -97,3 +98,29 @@ state_of heights s = living (λ sizes column. slice_index_or sizes.0.items colum
 abbrev pub HasPrinted : Plan → List (List Text) → ((ℕ → ℕ) → Living) → Type 0
 HasPrinted plan cells state =
     (heights : ℕ → ℕ) → AreHeights (start_of plan heights) cells → state heights ≡ record { printed = after_rows (start_of plan heights) cells; is_lost = false }
+
+-- ---- rows that are drawn so far
+
+-- the rows of these cells are drawn, by this plan
+pub record HasDrawn (plan : Plan) (cells : List (List Text)) (rows : RowLines) : Type 0 where
+  pub some : 0 < length plan.places
+  pub plain : plan.config.spans ≡ []
+  pub noted : rows.note.now ≡ plan.note
+  pub begun : rows.is_begun ≡ nat_lt 0 (length cells)
+  pub prints : HasPrinted plan cells (λ heights. state_of heights rows.sheet)
+
+-- each row has a cell for each column
+abbrev pub AreEven : Plan → List (List Text) → Type 0
+AreEven plan cells = All (λ row. length row ≡ length plan.places) cells
+
+-- ---- rows whose lines are appended
+
+-- these rows are, by these options and this plan
+pub record HasAppended (options : Options) (plan : Plan) (rows : List (List Text)) (table : TableRows) : Type 0 where
+  pub asked : table.options.now ≡ options
+  pub laid : plan_in table.layout.now ≡ with_colors (λ place. None) plan
+  pub drawn : HasDrawn plan (cells_of options plan rows) table.rows
+
+-- a call has failed
+abbrev pub IsOver : TableRows → Type 0
+IsOver table = table.is_over ≡ true

@@ -1,9 +1,10 @@
--- At which side of its cells the texts of a column stand.
-use Rattle.std.specs.Prelude.{ℕ, ◌||◌, Bool, List, [], drop, slice_index_or, fold, string_bytes, Option, Some, None, if◌then◌else◌}
-use Rattle.std.specs.List.{list_all, list_any, range_with_len}
-use Rattle.std.specs.Str.{bytes_eq}
+-- At which side of its cells the texts of a column stand, and numbers whose points are below one another.
+use Rattle.std.specs.Prelude.{ℕ, ◌||◌, Bool, List, [], drop, slice_index_or, fold, string_bytes, Option, Some, None, if◌then◌else◌, ◌-◌, ◌==◌, ◌&&◌, not, max, true, false, ◌∷◌, ◌++◌, codes}
+use Rattle.std.specs.Prelude.{length, map, position}
+use Rattle.std.specs.List.{list_all, list_any, range_with_len, prefix_len, repeat}
+use Rattle.std.specs.Str.{bytes_eq, chars}
 use Rattle.pg_layout.specs.Records.{columns_of}
-use Rattle.pg_layout.specs.Text.{Text}
+use Rattle.pg_layout.specs.Text.{Text, greatest}
 use Rattle.pg_layout.specs.declared.alignment.AlignmentHorizontal.{AlignmentHorizontal}
 use Rattle.pg_layout.specs.declared.alignment.AlignmentHorizontal.TheVariants.{Left, Center, Right}
 use Rattle.pg_layout.specs.declared.position.Entity.TheVariants.{Column}
@@ -14,6 +15,7 @@ use Rattle.ruled_table.specs.Numbers.{gap, is_blank, is_number}
 use Rattle.ruled_table.specs.declared.options.Options.{Options}
 use Rattle.ruled_table.specs.declared.options.Side.{Side}
 use Rattle.ruled_table.specs.declared.options.Side.TheVariants.{To, Point}
+use Rattle.ruled_table.specs.declared.points.Extent.{Extent}
 
 -- ---- columns of numbers
 
@@ -59,3 +61,89 @@ with_sides side columns settings = fold (λ settings column. with_side column (s
 -- the columns of these rows at their sides
 abbrev pub sided : Options → List (List Text) → Config → Config
 sided options rows config = record config { alignment_horizontal = with_sides (side_of options rows) (columns_of rows) config.alignment_horizontal }
+
+-- ---- the parts of a number
+
+-- its whole part ends before a point, an exponent or a percent sign
+abbrev pub ends_whole : ℕ → Bool
+ends_whole c = (c == 46) || ((c == 101) || ((c == 69) || (c == 37)))
+
+-- how many characters it has, and how many follow it
+abbrev pub whole_len : Text → ℕ
+whole_len text = prefix_len (λ c. not (ends_whole c)) (chars text)
+
+abbrev pub rest_len : Text → ℕ
+rest_len text = length (chars text) - whole_len text
+
+-- by how many characters a number is shorter behind its point than this, and with as many spaces there
+abbrev pub lacking : ℕ → Text → ℕ
+lacking rest text = if is_number text then rest - rest_len text else 0
+
+abbrev pub pointed : ℕ → Text → Text
+pointed rest text = text ++ repeat (lacking rest text) (codes " ")
+
+-- ---- columns whose points are below one another
+
+abbrev pub is_point : Option Side → Bool
+is_point None = false
+is_point (Some (To side)) = false
+is_point (Some Point) = true
+
+-- those that are so aligned, and have numbers
+abbrev pub is_pointed : Options → List (List Text) → ℕ → Bool
+is_pointed options rows column = is_point (told_of options.sides.items column) && is_numeric options (body_of options.has_header rows) column
+
+-- how many characters a number has in front of its point, and from this on
+abbrev pub no_extent : Extent
+no_extent = record { whole = 0; rest = 0 }
+
+abbrev pub own_extent : Text → Extent
+own_extent text = if is_number text then record { whole = whole_len text; rest = rest_len text } else no_extent
+
+-- the most that those of a column have
+abbrev pub extent_of : List (List Text) → ℕ → Extent
+extent_of rows column = record {
+  whole = greatest (map (λ row. (own_extent (slice_index_or row column [])).whole) rows);
+  rest = greatest (map (λ row. (own_extent (slice_index_or row column [])).rest) rows);
+}
+
+-- ---- fields that these columns show
+
+abbrev pub shows : ℕ → Option ℕ → Bool
+shows field None = false
+shows field (Some place) = place == field
+
+module _ (options : Options) (places : List (Option ℕ)) (rows : List (List Text)) where
+  -- the first column that shows a field determines its extent
+  abbrev pub extent_by : Option ℕ → Extent
+  extent_by None = no_extent
+  extent_by (Some column) = if is_pointed options rows column then extent_of rows column else no_extent
+
+  abbrev pub field_extent : ℕ → Extent
+  field_extent field = extent_by (position (shows field) places)
+
+  -- that of each of so many fields; of none where no column is aligned by points
+  abbrev pub extents_of : ℕ → List Extent
+  extents_of fields = if list_any is_point options.sides.items then map field_extent (range_with_len 0 fields) else []
+
+abbrev pub extent_at : List Extent → ℕ → Extent
+extent_at extents field = slice_index_or extents field no_extent
+
+-- ---- rows
+
+-- a row with spaces behind its numbers
+abbrev pub pointed_fields : List Extent → List Text → List Text
+pointed_fields extents row = map (λ field. pointed (extent_at extents field).rest (slice_index_or row field [])) (range_with_len 0 (length row))
+
+-- where points are below one another
+abbrev pub pointed_row : List Extent → List Text → List Text
+pointed_row [] row = row
+pointed_row (extent ∷ extents) row = pointed_fields (extent ∷ extents) row
+
+-- as many digits as a number of this extent takes, at least one
+abbrev pub widest_number : Extent → Text
+widest_number extent = repeat (max extent.whole (1 - extent.rest)) (codes "0") ++ repeat extent.rest (codes "0")
+
+-- a row of them: so each column has room for its numbers, and for one character
+abbrev pub ruler_of : List Extent → ℕ → List Text
+ruler_of extents fields = map (λ field. widest_number (extent_at extents field)) (range_with_len 0 fields)

@@ -18,10 +18,9 @@ use Rattle.pg_table.specs.declared.fault.TableFault.TheVariants as table
 use Rattle.pg_table.specs.declared.overflow.Overflow.{Overflow}
 use Rattle.pg_table.specs.declared.overflow.Overflow.TheVariants.{Wrap, Cut}
 use Rattle.pg_table.specs.declared.sizes.Axis.TheVariants.{Columns, Rows}
-use Rattle.ruled_table.specs.Bounds.{are_told, width_of}
+use Rattle.ruled_table.specs.Bounds.{are_told, width_of, kept_limits}
 use Rattle.ruled_table.specs.Columns.{ellipsis}
 use Rattle.ruled_table.specs.Numbers.{is_number}
-use Rattle.ruled_table.specs.Ranges.{kept_limits}
 use Rattle.ruled_table.specs.Tables.{with_line}
 use Rattle.ruled_table.specs.Shown.{line_in, sided_config}
 use Rattle.ruled_table.specs.declared.options.Options.{Options}

@@ -3,7 +3,7 @@
 ghost use Rattle.std.specs.Prelude.{◌≡◌, ◌≤◌, ◌∷◌, [], count_by, length, nat_lt, map, max, slice_index_or, string_bytes, IfOk, IfSome, ◌<◌};
 ghost use Rattle.csv.specs.Records.{fields_of};
 ghost use Rattle.ruled_table.specs.Arranged as spec;
-ghost use Rattle.ruled_table.specs.Faults.{Tells};
+ghost use Rattle.ruled_table.specs.Tables.{Tells};
 
 use crate::columns::{field_at, first_meant};
 use crate::fault::ViewFault;

@@ -4,11 +4,10 @@ ghost use Rattle.std.specs.Prelude.{◌≡◌, ◌++◌, [], List, map, slice_in
 ghost use Rattle.csv.specs.Records.{fields_of};
 ghost use Rattle.pg_layout.specs.Text.{Text};
 ghost use Rattle.pg_picture.specs.Appending.{GainedBeginning};
-ghost use Rattle.ruled_table.specs.Blocks as spec;
-ghost use Rattle.ruled_table.specs.Columns.{column_fault};
-ghost use Rattle.ruled_table.specs.Faults.{Tells};
-ghost use Rattle.ruled_table.specs.LentRows.{fields_at};
-ghost use Rattle.ruled_table.specs.Blocks.{HasNames};
+ghost use Rattle.ruled_table.specs.View as spec;
+ghost use Rattle.ruled_table.specs.Columns.{column_fault, fields_at};
+ghost use Rattle.ruled_table.specs.Tables.{Tells};
+ghost use Rattle.ruled_table.specs.View.{HasNames};
 ghost use Rattle.ruled_table.specs.Shown.{shown_text};
 ghost use Rattle.ruled_table.specs.declared.options.Options.{Options};
 

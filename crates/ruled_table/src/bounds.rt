@@ -7,7 +7,7 @@ ghost use Rattle.pg_picture.specs.Table.{Known};
 ghost use Rattle.pg_table.specs.declared.fault.TableFault.{TableFault};
 ghost use Rattle.pg_layout.specs.Records.{columns_of};
 ghost use Rattle.ruled_table.specs.Bounds as spec;
-ghost use Rattle.ruled_table.specs.LentRows.{pairs_in};
+ghost use Rattle.ruled_table.specs.Columns.{pairs_in};
 ghost use Rattle.ruled_table.specs.Shown.{color_in};
 
 use crate::colors::TextColors;

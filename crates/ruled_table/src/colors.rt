@@ -3,7 +3,7 @@
 ghost use Rattle.std.specs.Prelude.{◌≡◌, not, option_map, map};
 ghost use Rattle.csv.specs.Records.{fields_of};
 ghost use Rattle.pg_layout.specs.Colors.{lent_color};
-ghost use Rattle.ruled_table.specs.Plans.{plan_in};
+ghost use Rattle.ruled_table.specs.Layouts.{plan_in};
 ghost use Rattle.ruled_table.specs.Shown as spec;
 
 use crate::columns::drawn_at;

@@ -7,7 +7,7 @@ ghost use Rattle.std.specs.Option.{option_map_or, option_or};
 ghost use Rattle.std.specs.Str.{bytes_eq};
 ghost use Rattle.csv.specs.Records.{fields_of};
 ghost use Rattle.ruled_table.specs.Columns as spec;
-ghost use Rattle.ruled_table.specs.Faults.{Tells};
+ghost use Rattle.ruled_table.specs.Tables.{Tells};
 ghost use Rattle.ruled_table.specs.declared.fault.ViewFault.TheVariants.{Column};
 
 use crate::fault::ViewFault;

@@ -2,7 +2,7 @@
 
 ghost use Rattle.std.specs.Prelude.{◌≡◌, ◌⊎◌};
 ghost use Rattle.pg_table.specs.declared.fault.TableFault.{TableFault};
-ghost use Rattle.ruled_table.specs.Faults.{fault_of_stream};
+ghost use Rattle.ruled_table.specs.Tables.{fault_of_stream};
 ghost use Rattle.ruled_table.specs.declared.fault.ViewFault.TheVariants.{Memory, Totals};
 
 use pg_stream::StreamFault;

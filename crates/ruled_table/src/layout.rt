@@ -2,10 +2,10 @@
 
 ghost use Rattle.std.specs.Prelude.{◌≡◌, map, string_bytes, take, true, IfOk};
 ghost use Rattle.csv.specs.Records.{fields_of};
-ghost use Rattle.ruled_table.specs.Faults.{Tells};
+ghost use Rattle.ruled_table.specs.Tables.{Tells};
 ghost use Rattle.ruled_table.specs.Layouts as spec;
-ghost use Rattle.ruled_table.specs.LentRows.{texts_at};
-ghost use Rattle.ruled_table.specs.Plans.{is_in_blocks, leaves_columns_out, plan_in};
+ghost use Rattle.ruled_table.specs.Columns.{texts_at};
+ghost use Rattle.ruled_table.specs.Layouts.{is_in_blocks, leaves_columns_out, plan_in};
 ghost use Rattle.ruled_table.specs.Shown.{shown_text};
 ghost use Rattle.ruled_table.specs.View.{excess_of};
 
@@ -40,7 +40,7 @@ pub struct Layout {
 
 impl Model for Layout {
     ghost use Rattle.std.specs.Prelude.{◌≡◌, [], string_bytes};
-    ghost use Rattle.ruled_table.specs.Plans.{Measures};
+    ghost use Rattle.ruled_table.specs.Layouts.{Measures};
 
     ghost Value = { Measures };
 

@@ -4,7 +4,7 @@ ghost use Rattle.std.specs.Prelude.{◌≡◌, ◌<◌, [], length, map, slice_i
 ghost use Rattle.std.specs.Iterator.{YieldsFirstBy, item_count};
 ghost use Rattle.csv.specs.Records.{fields_of};
 ghost use Rattle.pg_layout.specs.Records.{columns_of, text_at};
-ghost use Rattle.ruled_table.specs.LentRows.{fields_at, texts_of};
+ghost use Rattle.ruled_table.specs.Columns.{fields_at, texts_of};
 
 use crate::columns::drawn_at;
 use pg_layout::{

@@ -1,7 +1,7 @@
 //! The looks of tables.
 
 ghost use Rattle.std.specs.Prelude.{◌≡◌, Some, IfSome};
-ghost use Rattle.ruled_table.specs.Look as spec;
+ghost use Rattle.ruled_table.specs.Shown as spec;
 ghost use Rattle.ruled_table.specs.declared.look.Look.{Look};
 
 use pg_layout::{Borders, HorizontalLine};

@@ -1,8 +1,8 @@
 //! The columns in the middle of a table that are left out because a line has no room for them.
 
 ghost use Rattle.std.specs.Prelude.{◌≡◌, ◌<◌, ◌≤◌, None, length, vec_len, string_bytes, IfOk};
-ghost use Rattle.ruled_table.specs.LentRows.{texts_of};
-ghost use Rattle.ruled_table.specs.Omitted as spec;
+ghost use Rattle.ruled_table.specs.Columns.{texts_of};
+ghost use Rattle.ruled_table.specs.Layouts as spec;
 
 use crate::bounds::Bounds;
 use crate::columns::told_of;

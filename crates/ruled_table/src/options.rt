@@ -1,7 +1,7 @@
 //! How rows are shown.
 
 ghost use Rattle.std.specs.Prelude.{◌≡◌};
-ghost use Rattle.ruled_table.specs.Plans.{is_always};
+ghost use Rattle.ruled_table.specs.Layouts.{is_always};
 
 use crate::bounds::Bounds;
 use crate::look::Look;

@@ -3,7 +3,7 @@
 ghost use Rattle.std.specs.Prelude.{◌≡◌, ◌<◌, length, Some};
 ghost use Rattle.std.specs.Iterator.{YieldsFirstBy, item_count};
 ghost use Rattle.pg_layout.specs.Records.{columns_of, text_at};
-ghost use Rattle.ruled_table.specs.LentRows.{pairs_in, texts_left};
+ghost use Rattle.ruled_table.specs.Columns.{pairs_in, texts_left};
 
 use crate::columns::drawn_at;
 use crate::lent_rows::text_in;

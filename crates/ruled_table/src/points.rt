@@ -3,8 +3,8 @@
 ghost use Rattle.std.specs.Prelude.{◌≡◌, [], length, map, position, slice_index_or, string_bytes, IfOk};
 ghost use Rattle.std.specs.List.{list_any, range_with_len};
 ghost use Rattle.csv.specs.Records.{fields_of};
-ghost use Rattle.ruled_table.specs.LentRows.{texts_of};
-ghost use Rattle.ruled_table.specs.Points as spec;
+ghost use Rattle.ruled_table.specs.Columns.{texts_of};
+ghost use Rattle.ruled_table.specs.Sides as spec;
 
 use crate::columns::{field_at, told_of};
 use crate::lent_rows::{LentRows, text_in};

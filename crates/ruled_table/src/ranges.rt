@@ -5,9 +5,8 @@ ghost use Rattle.std.specs.List.{list_all, range_with_len};
 ghost use Rattle.csv.specs.Records.{fields_of, text_of};
 ghost use Rattle.pg_layout.specs.Records.{columns_of};
 ghost use Rattle.pg_layout.specs.Text.{is_plain_byte, text_width_of};
-ghost use Rattle.ruled_table.specs.Columns.{drawn_at};
-ghost use Rattle.ruled_table.specs.LentRows.{fields_at, texts_of};
-ghost use Rattle.ruled_table.specs.Ranges as spec;
+ghost use Rattle.ruled_table.specs.Columns.{drawn_at, fields_at, texts_of};
+ghost use Rattle.ruled_table.specs.Bounds as spec;
 
 use crate::bounds::limit_of;
 use crate::columns::{drawn_at, field_at, told_of};

@@ -8,12 +8,10 @@ ghost use Rattle.pg_stream.specs.Conditions.{RowFits};
 ghost use Rattle.pg_stream.specs.LiveStreams.{MayEnd};
 ghost use Rattle.pg_stream.specs.Printing.{after_row, finish_text, row_text};
 ghost use Rattle.pg_stream.specs.SizedStreams.{CountsLines, IsNextHeight};
-ghost use Rattle.ruled_table.specs.Appended.{AreEven, HasDrawn};
-ghost use Rattle.ruled_table.specs.Faults.{Tells};
-ghost use Rattle.ruled_table.specs.Layouts.{start_fault, whole_of};
-ghost use Rattle.ruled_table.specs.Plans.{Plan, plan_in, with_colors};
+ghost use Rattle.ruled_table.specs.RowLines.{AreEven, HasDrawn, GrowsTo, HasNoRoomBelow, TellsRoom, begun_of, but_feed, ended, ended_by, note_below, state_of};
+ghost use Rattle.ruled_table.specs.Tables.{Tells};
+ghost use Rattle.ruled_table.specs.Layouts.{start_fault, whole_of, Plan, plan_in, with_colors};
 ghost use Rattle.ruled_table.specs.Shown.{color_in};
-ghost use Rattle.ruled_table.specs.RowLines.{GrowsTo, HasNoRoomBelow, TellsRoom, begun_of, but_feed, ended, ended_by, note_below, state_of};
 ghost use Rattle.ruled_table.specs.declared.fault.ViewFault.{ViewFault};
 ghost use Rattle.ruled_table.specs.declared.fault.ViewFault.TheVariants.{Memory};
 

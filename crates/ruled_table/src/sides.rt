@@ -4,7 +4,7 @@ ghost use Rattle.std.specs.Prelude.{◌≡◌, [], slice_index_or, OnOk};
 ghost use Rattle.std.specs.List.{list_all};
 ghost use Rattle.csv.specs.Records.{fields_of};
 ghost use Rattle.pg_layout.specs.Records.{columns_of};
-ghost use Rattle.ruled_table.specs.LentRows.{fields_at, texts_of};
+ghost use Rattle.ruled_table.specs.Columns.{fields_at, texts_of};
 ghost use Rattle.ruled_table.specs.Sides as spec;
 
 use crate::columns::told_of;

@@ -5,9 +5,8 @@ ghost use Rattle.pg_picture.specs.Appending.{GainedBeginning};
 ghost use Rattle.pg_picture.specs.Picture.{picture};
 ghost use Rattle.pg_picture.specs.Table.{Known};
 ghost use Rattle.ruled_table.specs.Bounds.{bounded_fault, bounded_table};
-ghost use Rattle.ruled_table.specs.Faults.{Tells, totals_of};
-ghost use Rattle.ruled_table.specs.LentRows.{texts_of, pairs_in};
-ghost use Rattle.ruled_table.specs.Tables.{fault_with, text_with, with_line};
+ghost use Rattle.ruled_table.specs.Tables.{Tells, totals_of, fault_with, text_with, with_line};
+ghost use Rattle.ruled_table.specs.Columns.{texts_of, pairs_in};
 ghost use Rattle.ruled_table.specs.Shown.{color_in, line_in, look_config, sided_config};
 
 use crate::bounds::Bounds;

@@ -2,8 +2,8 @@
 
 ghost use Rattle.std.specs.Cow.{cow_str_bytes};
 ghost use Rattle.std.specs.Prelude.{◌≡◌, ◌<◌, ◌+◌, ◌^◌, ℕ, length, slice_index, string_bytes, true, IfOk};
-ghost use Rattle.ruled_table.specs.Faults.{Tells, totals_of};
-ghost use Rattle.ruled_table.specs.LentRows.{texts_of};
+ghost use Rattle.ruled_table.specs.Tables.{Tells, totals_of};
+ghost use Rattle.ruled_table.specs.Columns.{texts_of};
 ghost use Rattle.ruled_table.specs.Widths as spec;
 
 use crate::fault::{ViewFault, fault_in};

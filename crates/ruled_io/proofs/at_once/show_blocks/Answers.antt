@@ -2,7 +2,7 @@ use Rattle.std.proofs.Common.{◌≡◌, ◌∙◌, ℕ, List, Option, None, Som
 use Rattle.std.specs.List.{flat_map}
 use Rattle.csv.specs.Records.{Row, fields_of}
 use Rattle.pg_layout.specs.Text.{Text}
-use Rattle.ruled_table.specs.Blocks.{blocks_fault, blocks_text, record_block, records_fault}
+use Rattle.ruled_table.specs.View.{blocks_fault, blocks_text, record_block, records_fault}
 use Rattle.ruled_table.specs.declared.fault.ViewFault.{ViewFault}
 use Rattle.ruled_io.specs.Steps.{DrawsInMemory}
 use Rattle.ruled_io.proofs.AtOnce.{draws-so, drop-one, view-draws}

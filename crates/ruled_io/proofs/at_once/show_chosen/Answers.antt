@@ -1,10 +1,9 @@
 use Rattle.std.proofs.Common.{◌≡◌, ℕ, List, Option, None, map, refl, ap, subst, true, rules}
 use Rattle.csv.specs.Records.{fields_of}
 use Rattle.pg_layout.specs.Text.{Text}
-use Rattle.ruled_table.specs.Blocks.{blocks_fault, blocks_text}
+use Rattle.ruled_table.specs.View.{blocks_fault, blocks_text, all_excess, all_fault, all_text}
 use Rattle.ruled_table.specs.Columns.{column_fault}
-use Rattle.ruled_table.specs.Plans.{is_always}
-use Rattle.ruled_table.specs.View.{all_excess, all_fault, all_text}
+use Rattle.ruled_table.specs.Layouts.{is_always}
 use Rattle.ruled_io.specs.Steps.{Draws}
 use Rattle.ruled_io.proofs.AtOnce.{always-blocks, blocks-always, blocks-excess, draws-with, returned-with, same-draws, told-with}
 use Rattle.ruled_io.proofs.at_once.show_chosen.Goals as goal

@@ -5,11 +5,9 @@ use Rattle.std.proofs.lemmas.Bool.{eqb-true}
 use Rattle.std.proofs.lemmas.List.{length-map, nil_from_length, take_all}
 use Rattle.csv.specs.Records.{fields_of}
 use Rattle.pg_layout.specs.Text.{Text}
-use Rattle.ruled_table.specs.Blocks.{blocks_fault, blocks_text}
+use Rattle.ruled_table.specs.View.{blocks_fault, blocks_text, all_excess, all_fault, all_text, shows_blocks, whole_table}
 use Rattle.ruled_table.specs.Columns.{column_fault}
-use Rattle.ruled_table.specs.Plans.{Plan, is_in_blocks, plan_in}
-use Rattle.ruled_table.specs.Layouts.{layout_fault, layout_of, start_fault}
-use Rattle.ruled_table.specs.View.{all_excess, all_fault, all_text, shows_blocks, whole_table}
+use Rattle.ruled_table.specs.Layouts.{Plan, is_in_blocks, plan_in, layout_fault, layout_of, start_fault}
 use Rattle.ruled_table.specs.declared.fault.ViewFault.{ViewFault}
 use Rattle.ruled_io.specs.Steps.{Draws}
 use Rattle.ruled_io.proofs.AtOnce.{blocks-excess, draws-with, excess-measured, measured-wrong, none-draws, none-excess, returned-with, same-draws, told-with, view-draws}

@@ -3,9 +3,8 @@ use Rattle.csv.specs.Records.{fields_of}
 use Rattle.pg_layout.specs.Text.{Text}
 use Rattle.pg_layout.specs.Colors.{Color}
 use Rattle.pg_layout.specs.declared.position.Position.{Position}
-use Rattle.ruled_table.specs.Appended.{HasAppended}
-use Rattle.ruled_table.specs.Plans.{plan_in, with_colors}
-use Rattle.ruled_table.specs.Layouts.{colored, layout_of, start_fault}
+use Rattle.ruled_table.specs.RowLines.{HasAppended}
+use Rattle.ruled_table.specs.Layouts.{plan_in, with_colors, colored, layout_of, start_fault}
 use Rattle.ruled_table.specs.View.{whole_table}
 use Rattle.ruled_io.proofs.AtOnce.{view-draws, whole-draws}
 use Rattle.ruled_io.proofs.at_once.show_table.Goals as goal

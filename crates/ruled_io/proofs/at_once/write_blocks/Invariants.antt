@@ -1,7 +1,7 @@
 use Rattle.std.proofs.Common.{◌≡◌, List, None, drop, map}
 use Rattle.csv.specs.Records.{fields_of}
 use Rattle.pg_layout.specs.Text.{Text}
-use Rattle.ruled_table.specs.Blocks.{HasNames}
+use Rattle.ruled_table.specs.View.{HasNames}
 use Rattle.ruled_table.specs.declared.options.Options.{Options}
 use Rattle.ruled_io.specs.Output.{failure_of}
 use Rattle.ruled_io.proofs.AtOnce.{Blocked}

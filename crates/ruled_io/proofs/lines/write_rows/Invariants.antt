@@ -1,8 +1,8 @@
 use Rattle.std.proofs.Common.{◌≡◌, List, None, drop, map}
 use Rattle.csv.specs.Records.{fields_of}
 use Rattle.pg_layout.specs.Text.{Text}
-use Rattle.ruled_table.specs.Appended.{HasAppended}
-use Rattle.ruled_table.specs.Plans.{Plan}
+use Rattle.ruled_table.specs.RowLines.{HasAppended}
+use Rattle.ruled_table.specs.Layouts.{Plan}
 use Rattle.ruled_table.specs.declared.options.Options.{Options}
 use Rattle.ruled_io.specs.Output.{failure_of}
 use Rattle.ruled_io.proofs.Tables.{Goes}

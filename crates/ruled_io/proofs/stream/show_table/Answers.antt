@@ -7,9 +7,8 @@ use Rattle.csv.specs.Records.{fields_of}
 use Rattle.pg_layout.specs.Text.{Text}
 use Rattle.pg_layout.specs.Colors.{Color}
 use Rattle.pg_layout.specs.declared.position.Position.{Position}
-use Rattle.ruled_table.specs.Appended.{HasAppended}
-use Rattle.ruled_table.specs.Plans.{plan_in, with_colors}
-use Rattle.ruled_table.specs.Layouts.{colored, first_fault, layout_fault, layout_of, start_fault}
+use Rattle.ruled_table.specs.RowLines.{HasAppended}
+use Rattle.ruled_table.specs.Layouts.{plan_in, with_colors, colored, first_fault, layout_fault, layout_of, start_fault}
 use Rattle.ruled_table.specs.declared.fault.ViewFault.{ViewFault}
 use Rattle.ruled_io.specs.Faults.{of_view}
 use Rattle.ruled_io.specs.declared.fault.RunFault.TheVariants.{Input}

@@ -2,8 +2,8 @@ use Rattle.std.proofs.Common.{◌≡◌, ℕ, List, None, ◌++◌, map}
 use Rattle.csv.specs.Records.{fields_of}
 use Rattle.pg_layout.specs.Text.{Text}
 use Rattle.ruled_json.specs.Streamed.{LineRules}
-use Rattle.ruled_table.specs.Appended.{HasAppended}
-use Rattle.ruled_table.specs.Plans.{Plan}
+use Rattle.ruled_table.specs.RowLines.{HasAppended}
+use Rattle.ruled_table.specs.Layouts.{Plan}
 use Rattle.ruled_io.specs.Output.{failure_of}
 use Rattle.ruled_io.specs.Reading.{Stands}
 use Rattle.ruled_table.specs.declared.options.Options.{Options}

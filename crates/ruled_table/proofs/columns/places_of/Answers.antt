@@ -3,7 +3,7 @@ use Rattle.std.proofs.lemmas.Grind.{common_steps}
 use Rattle.std.specs.Option.{option_or}
 use Rattle.csv.specs.Records.{fields_of}
 use Rattle.ruled_table.specs.Columns.{column_fault, last_word, missing_word}
-use Rattle.ruled_table.specs.Faults.{Tells}
+use Rattle.ruled_table.specs.Tables.{Tells}
 use Rattle.ruled_table.specs.declared.fault.ViewFault.{ViewFault}
 use Rattle.ruled_table.specs.declared.fault.ViewFault.TheVariants.{Column}
 use Rattle.ruled_table.proofs.columns.places_of.Goals as goal

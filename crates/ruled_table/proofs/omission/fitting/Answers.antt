@@ -1,6 +1,6 @@
 use Rattle.std.proofs.Common.{◌≡◌, ◌+◌, ◌<◌, ◌≤◌, ℕ, List, below_more, get_or, ap, arith}
 use Rattle.pg_config.specs.Config.{Config}
-use Rattle.ruled_table.specs.Omitted.{line_of}
+use Rattle.ruled_table.specs.Layouts.{line_of}
 use Rattle.ruled_table.proofs.FittingColumns.{fitting-is, line-more}
 use Rattle.ruled_table.proofs.omission.fitting.Goals as goal
 

@@ -1,6 +1,6 @@
 use Rattle.std.proofs.Common.{◌≡◌, ◌+◌, ◌<◌, ◌≤◌, ℕ, length, slice_index, sum_by}
 use Rattle.std.specs.List.{range_with_len}
-use Rattle.ruled_table.specs.Omitted.{line_of, turn}
+use Rattle.ruled_table.specs.Layouts.{line_of, turn}
 use Rattle.ruled_table.proofs.omission.fitting.Given as goal
 
 abbrev pub invariant-loop-shown : goal.invariant-loop-shown

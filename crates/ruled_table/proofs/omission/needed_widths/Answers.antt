@@ -1,7 +1,7 @@
 use Rattle.std.proofs.Common.{◌≡◌, ◌∙◌, ◌∷◌, ◌++◌, [], ℕ, List, length, sym, ap, arith}
 use Rattle.std.proofs.lemmas.List.FromFn.{map-range_with_len_more}
-use Rattle.ruled_table.specs.LentRows.{texts_of}
-use Rattle.ruled_table.specs.Omitted.{needed_width, needed_widths}
+use Rattle.ruled_table.specs.Columns.{texts_of}
+use Rattle.ruled_table.specs.Layouts.{needed_width, needed_widths}
 use Rattle.ruled_table.proofs.omission.needed_widths.Goals as goal
 
 pub loop-column-preserved : goal.loop-column-preserved

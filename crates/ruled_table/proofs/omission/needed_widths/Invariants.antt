@@ -1,6 +1,6 @@
 use Rattle.std.proofs.Common.{◌≡◌}
-use Rattle.ruled_table.specs.LentRows.{texts_of}
-use Rattle.ruled_table.specs.Omitted.{needed_widths}
+use Rattle.ruled_table.specs.Columns.{texts_of}
+use Rattle.ruled_table.specs.Layouts.{needed_widths}
 use Rattle.ruled_table.proofs.omission.needed_widths.Given as goal
 
 abbrev pub invariant-loop-column : goal.invariant-loop-column

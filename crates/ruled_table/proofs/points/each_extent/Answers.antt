@@ -1,8 +1,8 @@
 use Rattle.std.proofs.Common.{◌≡◌, ◌∙◌, ◌∷◌, ◌++◌, [], ℕ, List, map, sym, ap, arith}
 use Rattle.std.specs.List.{range_with_len}
 use Rattle.std.proofs.lemmas.List.FromFn.{map-range_with_len_more}
-use Rattle.ruled_table.specs.LentRows.{texts_of}
-use Rattle.ruled_table.specs.Points.{field_extent}
+use Rattle.ruled_table.specs.Columns.{texts_of}
+use Rattle.ruled_table.specs.Sides.{field_extent}
 use Rattle.ruled_table.specs.declared.points.Extent.{Extent}
 use Rattle.ruled_table.proofs.points.each_extent.Goals as goal
 

@@ -1,7 +1,7 @@
 use Rattle.std.proofs.Common.{◌≡◌, map}
 use Rattle.std.specs.List.{range_with_len}
-use Rattle.ruled_table.specs.LentRows.{texts_of}
-use Rattle.ruled_table.specs.Points.{field_extent}
+use Rattle.ruled_table.specs.Columns.{texts_of}
+use Rattle.ruled_table.specs.Sides.{field_extent}
 use Rattle.ruled_table.proofs.points.each_extent.Given as goal
 
 abbrev pub invariant-loop-field : goal.invariant-loop-field

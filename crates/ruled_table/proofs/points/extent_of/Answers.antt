@@ -1,8 +1,8 @@
 use Rattle.std.proofs.Common.{◌≡◌, ◌∙◌, ◌<◌, ◌≤◌, ◌∷◌, ◌+◌, ℕ, List, Option, [], drop, length, max, slice_index_or, ap, ap₂, arith}
 use Rattle.std.proofs.lemmas.List.{drop_all}
 use Rattle.csv.specs.Records.{Row, fields_of}
-use Rattle.ruled_table.specs.LentRows.{fields_at, texts_at}
-use Rattle.ruled_table.specs.Points.{extent_of, own_extent}
+use Rattle.ruled_table.specs.Columns.{fields_at, texts_at}
+use Rattle.ruled_table.specs.Sides.{extent_of, own_extent}
 use Rattle.ruled_table.specs.declared.points.Extent.{Extent}
 use Rattle.ruled_table.proofs.LentTexts.{drop_next}
 use Rattle.ruled_table.proofs.points.extent_of.Goals as goal

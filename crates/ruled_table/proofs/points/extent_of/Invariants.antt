@@ -1,6 +1,6 @@
 use Rattle.std.proofs.Common.{◌≡◌, drop, max}
-use Rattle.ruled_table.specs.LentRows.{texts_at}
-use Rattle.ruled_table.specs.Points.{extent_of}
+use Rattle.ruled_table.specs.Columns.{texts_at}
+use Rattle.ruled_table.specs.Sides.{extent_of}
 use Rattle.ruled_table.proofs.points.extent_of.Given as goal
 
 abbrev pub invariant-loop-fields : goal.invariant-loop-fields

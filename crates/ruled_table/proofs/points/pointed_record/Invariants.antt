@@ -1,7 +1,7 @@
 use Rattle.std.proofs.Common.{◌≡◌, [], map, slice_index_or}
 use Rattle.std.specs.List.{range_with_len}
 use Rattle.csv.specs.Records.{fields_of}
-use Rattle.ruled_table.specs.Points.{extent_at, pointed}
+use Rattle.ruled_table.specs.Sides.{extent_at, pointed}
 use Rattle.ruled_table.proofs.points.pointed_record.Given as goal
 
 abbrev pub invariant-loop-field : goal.invariant-loop-field

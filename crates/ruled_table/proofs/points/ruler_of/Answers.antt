@@ -2,7 +2,7 @@ use Rattle.std.proofs.Common.{◌≡◌, ◌∙◌, ◌∷◌, ◌++◌, [], ℕ
 use Rattle.std.proofs.lemmas.List.FromFn.{map-range_with_len_more}
 use Rattle.csv.specs.Records.{fields_of}
 use Rattle.pg_layout.specs.Text.{Text}
-use Rattle.ruled_table.specs.Points.{extent_at, ruler_of, widest_number}
+use Rattle.ruled_table.specs.Sides.{extent_at, ruler_of, widest_number}
 use Rattle.ruled_table.proofs.points.ruler_of.Goals as goal
 
 pub loop-field-preserved : goal.loop-field-preserved

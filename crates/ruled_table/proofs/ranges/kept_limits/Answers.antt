@@ -1,8 +1,8 @@
 use Rattle.std.proofs.Common.{◌∙◌, ◌∷◌, ◌++◌, [], ℕ, List, sym, ap, arith}
 use Rattle.std.proofs.lemmas.List.FromFn.{map-range_with_len_more}
 use Rattle.pg_fit.specs.declared.narrowing.ColumnRange.{ColumnRange}
-use Rattle.ruled_table.specs.LentRows.{texts_of}
-use Rattle.ruled_table.specs.Ranges.{range_of}
+use Rattle.ruled_table.specs.Columns.{texts_of}
+use Rattle.ruled_table.specs.Bounds.{range_of}
 use Rattle.ruled_table.proofs.ranges.kept_limits.Goals as goal
 
 pub loop-column-preserved : goal.loop-column-preserved

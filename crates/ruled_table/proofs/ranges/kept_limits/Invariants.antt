@@ -1,7 +1,7 @@
 use Rattle.std.proofs.Common.{◌≡◌, map}
 use Rattle.std.specs.List.{range_with_len}
-use Rattle.ruled_table.specs.LentRows.{texts_of}
-use Rattle.ruled_table.specs.Ranges.{range_of}
+use Rattle.ruled_table.specs.Columns.{texts_of}
+use Rattle.ruled_table.specs.Bounds.{range_of}
 use Rattle.ruled_table.proofs.ranges.kept_limits.Given as goal
 
 abbrev pub invariant-loop-column : goal.invariant-loop-column

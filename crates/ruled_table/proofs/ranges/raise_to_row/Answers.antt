@@ -3,8 +3,7 @@ use Rattle.std.proofs.lemmas.List.{get_or-map}
 use Rattle.csv.specs.Records.{fields_of}
 use Rattle.pg_layout.specs.Text.{Text, text_width_of}
 use Rattle.pg_table.proofs.ListedSizes.{one_more}
-use Rattle.ruled_table.specs.Columns.{drawn_at}
-use Rattle.ruled_table.specs.LentRows.{fields_at}
+use Rattle.ruled_table.specs.Columns.{drawn_at, fields_at}
 use Rattle.ruled_table.proofs.ranges.raise_to_row.Goals as goal
 
 pub loop-column-preserved : goal.loop-column-preserved

@@ -1,7 +1,7 @@
 use Rattle.std.proofs.Common.{◌≡◌, ◌<◌, ◌≤◌, ℕ, [], length, max, slice_index, slice_index_or}
 use Rattle.csv.specs.Records.{fields_of}
 use Rattle.pg_layout.specs.Text.{text_width_of}
-use Rattle.ruled_table.specs.LentRows.{fields_at}
+use Rattle.ruled_table.specs.Columns.{fields_at}
 use Rattle.ruled_table.proofs.ranges.raise_to_row.Given as goal
 
 -- those so far are raised, and the others are as they were

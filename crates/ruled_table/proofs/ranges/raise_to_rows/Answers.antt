@@ -5,8 +5,8 @@ use Rattle.std.proofs.lemmas.List.FromFn.{fill_by_all}
 use Rattle.csv.specs.Records.{Row, fields_of}
 use Rattle.pg_layout.specs.Records.{columns_of}
 use Rattle.pg_layout.specs.Text.{text_width_of}
-use Rattle.ruled_table.specs.LentRows.{fields_at, texts_at}
-use Rattle.ruled_table.specs.Ranges.{are_counted, widest_text}
+use Rattle.ruled_table.specs.Columns.{fields_at, texts_at}
+use Rattle.ruled_table.specs.Bounds.{are_counted, widest_text}
 use Rattle.ruled_table.proofs.LentTexts.{columns-some, drop_next}
 use Rattle.ruled_table.proofs.ranges.raise_to_rows.Goals as goal
 

@@ -1,7 +1,7 @@
 use Rattle.std.proofs.Common.{◌≡◌, ◌<◌, ℕ, drop, length, max, slice_index}
 use Rattle.pg_layout.specs.Records.{columns_of}
-use Rattle.ruled_table.specs.LentRows.{texts_at}
-use Rattle.ruled_table.specs.Ranges.{are_counted, widest_text}
+use Rattle.ruled_table.specs.Columns.{texts_at}
+use Rattle.ruled_table.specs.Bounds.{are_counted, widest_text}
 use Rattle.ruled_table.proofs.ranges.raise_to_rows.Given as goal
 
 abbrev pub invariant-loop-fields : goal.invariant-loop-fields

@@ -2,8 +2,8 @@ use Rattle.std.proofs.Common.{◌≡◌, ◌∙◌, ◌<◌, ◌≤◌, ◌∷�
 use Rattle.std.proofs.lemmas.List.{drop_all}
 use Rattle.csv.specs.Records.{Row, fields_of}
 use Rattle.pg_layout.specs.Text.{text_width_of}
-use Rattle.ruled_table.specs.LentRows.{fields_at, texts_at}
-use Rattle.ruled_table.specs.Ranges.{widest_text}
+use Rattle.ruled_table.specs.Columns.{fields_at, texts_at}
+use Rattle.ruled_table.specs.Bounds.{widest_text}
 use Rattle.ruled_table.proofs.LentTexts.{drop_next}
 use Rattle.ruled_table.proofs.ranges.widest_text.Goals as goal
 

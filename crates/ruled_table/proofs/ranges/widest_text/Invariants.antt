@@ -1,6 +1,6 @@
 use Rattle.std.proofs.Common.{◌≡◌, drop, max}
-use Rattle.ruled_table.specs.LentRows.{texts_at}
-use Rattle.ruled_table.specs.Ranges.{widest_text}
+use Rattle.ruled_table.specs.Columns.{texts_at}
+use Rattle.ruled_table.specs.Bounds.{widest_text}
 use Rattle.ruled_table.proofs.ranges.widest_text.Given as goal
 
 abbrev pub invariant-loop-fields : goal.invariant-loop-fields

@@ -2,7 +2,7 @@ use Rattle.std.proofs.Common.{◌∙◌, ℕ, sym, ap}
 use Rattle.pg_layout.specs.declared.alignment.AlignmentHorizontal.{AlignmentHorizontal}
 use Rattle.pg_config.specs.Config.{Config}
 use Rattle.pg_config.specs.Settings.{Settings}
-use Rattle.ruled_table.specs.LentRows.{texts_of}
+use Rattle.ruled_table.specs.Columns.{texts_of}
 use Rattle.ruled_table.specs.Sides.{side_of, with_side}
 use Rattle.ruled_table.proofs.LentTexts.{sides_more}
 use Rattle.ruled_table.proofs.sides.set_sides.Goals as goal

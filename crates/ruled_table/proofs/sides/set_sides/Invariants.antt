@@ -1,5 +1,5 @@
 use Rattle.std.proofs.Common.{◌≡◌}
-use Rattle.ruled_table.specs.LentRows.{texts_of}
+use Rattle.ruled_table.specs.Columns.{texts_of}
 use Rattle.ruled_table.specs.Sides.{side_of, with_sides}
 use Rattle.ruled_table.proofs.sides.set_sides.Given as goal
 

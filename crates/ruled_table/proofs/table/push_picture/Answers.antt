@@ -4,7 +4,7 @@ use Rattle.pg_layout.specs.Text.{Text}
 use Rattle.pg_picture.specs.Picture.{picture}
 use Rattle.pg_picture.specs.Table.{Known}
 use Rattle.ruled_table.specs.Bounds.{bounded_table}
-use Rattle.ruled_table.specs.LentRows.{pairs_in}
+use Rattle.ruled_table.specs.Columns.{pairs_in}
 use Rattle.ruled_table.specs.Shown.{color_in}
 use Rattle.ruled_table.proofs.Tables.{gained-first, gained-in, on-err}
 use Rattle.ruled_table.proofs.table.push_picture.Goals as goal

@@ -3,8 +3,8 @@ use Rattle.std.proofs.lemmas.Bool.Decides.{nat_tests}
 use Rattle.std.specs.Prelude.{◌==◌, OnErr, OnOk}
 use Rattle.pg_layout.specs.Text.{Text}
 use Rattle.pg_picture.specs.Appending.{GainedBeginning}
-use Rattle.ruled_table.specs.Faults.{Tells}
-use Rattle.ruled_table.specs.LentRows.{pairs_in}
+use Rattle.ruled_table.specs.Tables.{Tells}
+use Rattle.ruled_table.specs.Columns.{pairs_in}
 use Rattle.ruled_table.specs.Shown.{color_in}
 use Rattle.ruled_table.specs.declared.fault.ViewFault.{ViewFault}
 use Rattle.ruled_table.proofs.Tables.{fault_drawn, fault_none, text_drawn, text_none}

@@ -1,7 +1,7 @@
 use Rattle.std.proofs.Common.{◌∙◌, ap}
 use Rattle.pg_layout.specs.Records.{columns_of}
 use Rattle.pg_config.specs.Config.{Config}
-use Rattle.ruled_table.specs.LentRows.{texts_of}
+use Rattle.ruled_table.specs.Columns.{texts_of}
 use Rattle.ruled_table.specs.Sides.{side_of, with_sides}
 use Rattle.ruled_table.proofs.table.sided_config.Goals as goal
 

@@ -3,7 +3,7 @@ use Rattle.pg_layout.specs.Records.{columns_of}
 use Rattle.pg_layout.specs.Text.{Text}
 use Rattle.pg_layout.specs.declared.borders.HorizontalLine.{HorizontalLine}
 use Rattle.pg_config.specs.Config.{Config}
-use Rattle.ruled_table.specs.LentRows.{texts_of}
+use Rattle.ruled_table.specs.Columns.{texts_of}
 use Rattle.ruled_table.specs.Tables.{with_line}
 use Rattle.ruled_table.specs.Shown.{line_in}
 use Rattle.ruled_table.proofs.widths.first_config.Goals as goal

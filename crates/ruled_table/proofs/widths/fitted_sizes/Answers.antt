@@ -7,9 +7,8 @@ use Rattle.pg_table.specs.Fitted.{fit_fault, fit_fault_of, fitted_of, fitted_tab
 use Rattle.pg_table.specs.Printing.{sizes_fault}
 use Rattle.pg_table.specs.Spanning.{spanned_widths}
 use Rattle.pg_table.specs.declared.fault.TableFault.{TableFault}
-use Rattle.ruled_table.specs.Bounds.{width_of}
-use Rattle.ruled_table.specs.LentRows.{texts_of}
-use Rattle.ruled_table.specs.Ranges.{kept_limits}
+use Rattle.ruled_table.specs.Bounds.{width_of, kept_limits}
+use Rattle.ruled_table.specs.Columns.{texts_of}
 use Rattle.ruled_table.specs.declared.lent_rows.LentRows.{LentRows}
 use Rattle.ruled_table.proofs.Tables.{drawn-sizes-fault, later-table-told, table-told, widths-are}
 use Rattle.ruled_table.proofs.widths.fitted_sizes.Goals as goal

@@ -4,8 +4,8 @@ use Rattle.std.proofs.lemmas.List.FromFn.{get_or-map-range_with_len, length-map-
 use Rattle.pg_layout.specs.Records.{columns_of}
 use Rattle.pg_layout.specs.Text.{Text}
 use Rattle.pg_table.proofs.ListedSizes.{seam}
-use Rattle.ruled_table.specs.LentRows.{texts_of}
-use Rattle.ruled_table.specs.Ranges.{widest_text}
+use Rattle.ruled_table.specs.Columns.{texts_of}
+use Rattle.ruled_table.specs.Bounds.{widest_text}
 use Rattle.ruled_table.proofs.NaturalWidths.{counted-texts, spaced-fault, spaced-widths}
 use Rattle.ruled_table.proofs.widths.natural_sizes.Goals as goal
 

@@ -1,5 +1,5 @@
 use Rattle.std.proofs.Common.{◌≡◌, slice_index_or}
-use Rattle.ruled_table.specs.LentRows.{texts_of}
+use Rattle.ruled_table.specs.Columns.{texts_of}
 use Rattle.ruled_table.specs.Widths.{widths_fault, widths_of}
 use Rattle.ruled_table.proofs.Tables.{ok-kept, tells-kept}
 use Rattle.ruled_table.proofs.widths.sizes_of_rows.Goals as goal

@@ -1,7 +1,7 @@
 use Rattle.std.proofs.Common.{◌≡◌, ◌∙◌, List, map, refl, sym, ap}
 use Rattle.csv.specs.Records.{fields_of}
 use Rattle.pg_layout.specs.Text.{Text}
-use Rattle.ruled_table.specs.Blocks.{record_block}
+use Rattle.ruled_table.specs.View.{record_block}
 use Rattle.ruled_table.specs.Shown.{shown_text}
 use Rattle.ruled_table.specs.declared.options.Options.{Options}
 use Rattle.ruled_table.proofs.Tables.{gained-none, on-err}

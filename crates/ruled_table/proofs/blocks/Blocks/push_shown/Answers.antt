@@ -7,8 +7,8 @@ use Rattle.pg_layout.specs.Colors.{Color}
 use Rattle.pg_layout.specs.Text.{Text}
 use Rattle.pg_layout.specs.declared.position.Position.{Position}
 use Rattle.pg_picture.specs.Appending.{GainedBeginning}
-use Rattle.ruled_table.specs.Blocks.{HasNames, places_in, record_fault}
-use Rattle.ruled_table.specs.LentRows.{fields_at, pairs_of}
+use Rattle.ruled_table.specs.View.{HasNames, places_in, record_fault}
+use Rattle.ruled_table.specs.Columns.{fields_at, pairs_of}
 use Rattle.ruled_table.specs.Shown.{color_beside, color_in}
 use Rattle.ruled_table.specs.Tables.{text_with}
 use Rattle.ruled_table.specs.declared.blocks.Blocks.{Blocks}

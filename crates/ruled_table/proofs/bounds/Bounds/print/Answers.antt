@@ -10,7 +10,7 @@ use Rattle.pg_table.specs.Fitted.{fit_fault, fit_fault_of, fitted_of, fitted_tab
 use Rattle.pg_table.specs.Printing.{fault_of, printed_table_of}
 use Rattle.pg_table.specs.declared.fault.TableFault.{TableFault}
 use Rattle.ruled_table.specs.Bounds.{are_told, bounded_table, fitted_within, limits_of, width_of}
-use Rattle.ruled_table.specs.LentRows.{pairs_in}
+use Rattle.ruled_table.specs.Columns.{pairs_in}
 use Rattle.ruled_table.specs.Shown.{color_in}
 use Rattle.ruled_table.specs.declared.paired_rows.PairedRows.{PairedRows}
 use Rattle.ruled_table.proofs.Tables.{first-table-told, gained-none, on-err, printed-begun, printed-fine, printed-wrong, table-told, wrong-told}

@@ -3,8 +3,7 @@ use Rattle.std.specs.Prelude.{if◌then◌else◌}
 use Rattle.std.specs.Option.{option_and_then}
 use Rattle.pg_picture.specs.Sizes.{if_fits, sized}
 use Rattle.pg_picture.specs.Table.{full_width, total_width}
-use Rattle.ruled_table.specs.Layouts.{table_of}
-use Rattle.ruled_table.specs.Plans.{Measures, Plan, plan_in}
+use Rattle.ruled_table.specs.Layouts.{table_of, Measures, Plan, plan_in}
 use Rattle.ruled_table.specs.View.{excess_of}
 use Rattle.ruled_table.proofs.layout.Layout.excess.Goals as goal
 

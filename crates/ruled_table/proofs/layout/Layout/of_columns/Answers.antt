@@ -2,9 +2,9 @@ use Rattle.std.proofs.Common.{◌≡◌, ◌∙◌, ℕ, List, Option, refl, str
 use Rattle.csv.specs.Records.{Row, fields_of}
 use Rattle.pg_layout.specs.Text.{Text}
 use Rattle.pg_config.specs.Config.{Config}
-use Rattle.ruled_table.specs.Faults.{totals_of}
+use Rattle.ruled_table.specs.Tables.{totals_of}
 use Rattle.ruled_table.specs.Layouts.{but_last, plan_fault}
-use Rattle.ruled_table.specs.LentRows.{fields_at, texts_at}
+use Rattle.ruled_table.specs.Columns.{fields_at, texts_at}
 use Rattle.ruled_table.specs.Widths.{HasSpaces, first_config, widths_fault, widths_in, widths_of}
 use Rattle.ruled_table.specs.declared.fault.ViewFault.{ViewFault}
 use Rattle.ruled_table.proofs.NaturalWidths.{first-spaces}

@@ -4,10 +4,9 @@ use Rattle.std.proofs.lemmas.List.{map-append}
 use Rattle.csv.specs.Records.{Row, fields_of}
 use Rattle.pg_layout.specs.Text.{Text}
 use Rattle.ruled_table.specs.Columns.{column_fault}
-use Rattle.ruled_table.specs.Faults.{Tells}
-use Rattle.ruled_table.specs.Layouts.{extents_in, measured_in, places_in, sizes_fault_by}
-use Rattle.ruled_table.specs.Plans.{Plan, plan_in}
-use Rattle.ruled_table.specs.Points.{ruler_of}
+use Rattle.ruled_table.specs.Tables.{Tells}
+use Rattle.ruled_table.specs.Layouts.{extents_in, measured_in, places_in, sizes_fault_by, Plan, plan_in}
+use Rattle.ruled_table.specs.Sides.{ruler_of}
 use Rattle.ruled_table.specs.Shown.{shown_text}
 use Rattle.ruled_table.specs.declared.fault.ViewFault.{ViewFault}
 use Rattle.ruled_table.proofs.RowsInParts.{extents-lent, layout-lent, sizes-lent}

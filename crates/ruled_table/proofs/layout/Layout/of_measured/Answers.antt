@@ -2,12 +2,9 @@ use Rattle.std.proofs.Common.{◌≡◌, ◌∙◌, [], ℕ, List, None, Option,
 use Rattle.std.specs.Prelude.{IfOk}
 use Rattle.csv.specs.Records.{Row}
 use Rattle.pg_layout.specs.Text.{Text}
-use Rattle.ruled_table.specs.Columns.{ellipsis}
-use Rattle.ruled_table.specs.Faults.{Tells}
-use Rattle.ruled_table.specs.LentRows.{texts_at}
-use Rattle.ruled_table.specs.Layouts.{plan_by, plan_fault}
-use Rattle.ruled_table.specs.Omitted.{abridged, note_of, shown_columns}
-use Rattle.ruled_table.specs.Plans.{Plan, plan_in}
+use Rattle.ruled_table.specs.Columns.{ellipsis, texts_at}
+use Rattle.ruled_table.specs.Tables.{Tells}
+use Rattle.ruled_table.specs.Layouts.{plan_by, plan_fault, abridged, note_of, shown_columns, Plan, plan_in}
 use Rattle.ruled_table.specs.declared.fault.ViewFault.{ViewFault}
 use Rattle.ruled_table.specs.declared.points.Extent.{Extent}
 use Rattle.ruled_table.proofs.LentTexts.{rows-abridged}

@@ -3,9 +3,8 @@ use Rattle.std.specs.Prelude.{IfOk}
 use Rattle.std.proofs.lemmas.List.{take-map}
 use Rattle.csv.specs.Records.{Row, fields_of}
 use Rattle.pg_layout.specs.Text.{Text}
-use Rattle.ruled_table.specs.Faults.{Tells}
-use Rattle.ruled_table.specs.Layouts.{layout_fault, layout_of}
-use Rattle.ruled_table.specs.Plans.{plan_in}
+use Rattle.ruled_table.specs.Tables.{Tells}
+use Rattle.ruled_table.specs.Layouts.{layout_fault, layout_of, plan_in}
 use Rattle.ruled_table.proofs.layout.Layout.of_rows.Goals as goal
 
 pub of_standing-requires : goal.of_standing-requires

@@ -2,7 +2,7 @@ use Rattle.std.proofs.Common.{◌<◌, ◌∙◌, ℕ, List, [], length, slice_i
 use Rattle.std.proofs.lemmas.List.{get_or-map, length-map}
 use Rattle.csv.specs.Records.{Row, fields_of}
 use Rattle.pg_layout.specs.Text.{Text}
-use Rattle.ruled_table.specs.LentRows.{fields_at}
+use Rattle.ruled_table.specs.Columns.{fields_at}
 use Rattle.ruled_table.proofs.lent_rows.LentRows.text_at.Goals as goal
 
 pub returns : goal.returns

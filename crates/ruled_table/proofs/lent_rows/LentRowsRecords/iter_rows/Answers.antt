@@ -1,7 +1,7 @@
 use Rattle.std.proofs.Common.{◌≡◌, Bor, ℕ, List, refl}
 use Rattle.csv.specs.Records.{fields_of}
 use Rattle.pg_layout.proofs.Given.{yields-all}
-use Rattle.ruled_table.specs.LentRows.{fields_at, texts_of}
+use Rattle.ruled_table.specs.Columns.{fields_at, texts_of}
 use Rattle.ruled_table.specs.declared.lent_rows.LentColumns.{LentColumns}
 use Rattle.ruled_table.specs.declared.lent_rows.LentRowsIter.{LentRowsIter}
 use Rattle.ruled_table.proofs.lent_rows.LentRowsRecords.iter_rows.Goals as goal

@@ -1,6 +1,6 @@
 use Rattle.std.proofs.Common.{◌≡◌, Bor, ℕ, List, refl}
 use Rattle.pg_layout.proofs.Given.{yields-all}
-use Rattle.ruled_table.specs.LentRows.{pairs_in, texts_left}
+use Rattle.ruled_table.specs.Columns.{pairs_in, texts_left}
 use Rattle.ruled_table.specs.declared.paired_rows.PairTexts.{PairTexts}
 use Rattle.ruled_table.specs.declared.paired_rows.PairedRowsIter.{PairedRowsIter}
 use Rattle.ruled_table.proofs.paired_rows.PairedRowsRecords.iter_rows.Goals as goal

@@ -1,8 +1,7 @@
 use Rattle.std.proofs.Common.{◌≡◌, ◌∙◌, ◌<◌, ℕ, length, None, Option, false, refl, subst, sym, ap, arith, slice_index_or, string_bytes}
 use Rattle.pg_stream.specs.SizedStreams.{sized_misfit}
-use Rattle.ruled_table.specs.Faults.{Tells}
-use Rattle.ruled_table.specs.Layouts.{start_fault, start_of}
-use Rattle.ruled_table.specs.Plans.{Measures, Plan, plan_in, with_colors}
+use Rattle.ruled_table.specs.Tables.{Tells}
+use Rattle.ruled_table.specs.Layouts.{start_fault, start_of, Measures, Plan, plan_in, with_colors}
 use Rattle.ruled_table.specs.RowLines.{state_of}
 use Rattle.ruled_table.specs.Shown.{color_in}
 use Rattle.ruled_table.specs.declared.fault.ViewFault.{ViewFault}

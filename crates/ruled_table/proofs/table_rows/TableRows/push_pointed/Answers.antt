@@ -5,10 +5,8 @@ use Rattle.std.specs.Prelude.{OnOk}
 use Rattle.std.proofs.lemmas.Result.{on_ok_weaker}
 use Rattle.csv.specs.Records.{fields_of}
 use Rattle.pg_layout.specs.Text.{Text}
-use Rattle.ruled_table.specs.Appended.{HasDrawn}
-use Rattle.ruled_table.specs.Layouts.{cells_of}
-use Rattle.ruled_table.specs.Plans.{Measures, Plan, plan_in, with_colors}
-use Rattle.ruled_table.specs.RowLines.{GrowsTo, HasNoRoomBelow, TellsRoom, begun_of}
+use Rattle.ruled_table.specs.RowLines.{HasDrawn, GrowsTo, HasNoRoomBelow, TellsRoom, begun_of}
+use Rattle.ruled_table.specs.Layouts.{cells_of, Measures, Plan, plan_in, with_colors}
 use Rattle.ruled_table.specs.Shown.{shown_row}
 use Rattle.ruled_table.specs.Widths.{row_within}
 use Rattle.ruled_table.specs.declared.options.Options.{Options}

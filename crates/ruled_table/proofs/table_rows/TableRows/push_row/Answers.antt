@@ -2,8 +2,8 @@ use Rattle.std.proofs.Common.{◌≡◌, ◌∙◌, ◌<◌, List, length, strin
 use Rattle.std.proofs.lemmas.Bool.Decides.{nat_tests}
 use Rattle.csv.specs.Records.{fields_of}
 use Rattle.pg_layout.specs.Text.{Text}
-use Rattle.ruled_table.specs.Plans.{Measures, Plan, plan_in}
-use Rattle.ruled_table.specs.Points.{pointed_fields}
+use Rattle.ruled_table.specs.Layouts.{Measures, Plan, plan_in}
+use Rattle.ruled_table.specs.Sides.{pointed_fields}
 use Rattle.ruled_table.specs.declared.points.Extent.{Extent}
 use Rattle.ruled_table.proofs.RowsInParts.{as-it-is, as-pointed}
 use Rattle.ruled_table.proofs.table_rows.TableRows.push_row.Goals as goal
