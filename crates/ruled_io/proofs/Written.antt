@@ -9,7 +9,7 @@ use Rattle.ruled_table.specs.RowLines.{HasAppended, begun_text, lines_of}
 use Rattle.ruled_table.specs.Layouts.{whole_text, Plan}
 use Rattle.ruled_table.specs.declared.options.Options.{Options}
 use Rattle.ruled_table.specs.declared.table_rows.TableRows.{TableRows}
-use Rattle.ruled_table.proofs.RowPictures as pictures
+use Rattle.ruled_table.proofs.RowsInParts as pictures
 use Rattle.ruled_table.proofs.RowsInParts as parts
 
 -- ---- texts that are written one part after another

@@ -239,3 +239,6 @@ shown_columns words header n asked_for left_out made is count are out =
     ∙ ap (map Some)
     (same_filter (λ column. not (left_out column)) (λ column. not (is_left_out words header column)) (λ column. ap not (out column)) (asked_or_all n asked_for)
     ∙ ap₂ (λ (m : ℕ) (columns : List ℕ). filter (λ column. not (is_left_out words header column)) (asked_or_all m columns)) count are)
+
+-- digits that are no number
+pub ruleset numbers_lost = (number-lost)

@@ -27,8 +27,8 @@ pub(crate) fn told_of<T: Copy>(words: &[Option<T>], column: usize) -> Option<T>
 }
 
 /// A field of a row, or an empty text if there is none.
-#[tactic(auto, using(crate::proofs::Rulesets::fields_found))]
-pub fn field_at(fields: &TextRow, place: usize) -> &str
+#[tactic(auto, using(crate::proofs::LentTexts::fields_found))]
+pub fn field_at(fields: &StringRecord, place: usize) -> &str
     ensures { result.now ≡ slice_index_or (fields_of fields.now) place [] }
 {
     match fields.get(place) {
@@ -68,7 +68,7 @@ fn column_of(header: &TextRow, first: &HashMap<&str, usize>, name: &str) -> Opti
 }
 
 // The number that digits write, or 0 if a word isn't digits.
-#[tactic(auto, using(crate::proofs::Rulesets::numbers_lost))]
+#[tactic(auto, using(crate::proofs::WordsOfColumns::numbers_lost))]
 fn number_in(word: &str) -> usize
     ensures { result ≡ spec.number_in word.now }
 {

@@ -101,7 +101,7 @@ impl<'a> Records for LentRows<'a> {
         LentRowsIter { rows: self }
     }
 
-    #[tactic(auto, using(crate::proofs::Rulesets::lent_columns))]
+    #[tactic(auto, using(crate::proofs::LentTexts::lent_columns))]
     fn count_columns(&self) -> usize {
         if self.records.is_empty() {
             0

@@ -52,7 +52,7 @@ fn have_numbers(
 }
 
 /// Whether each text of the column is a number, or counts as blank.
-#[tactic(auto, using(crate::proofs::Rulesets::numbered_rows))]
+#[tactic(auto, using(crate::proofs::LentTexts::numbered_rows))]
 pub(crate) fn is_numeric(options: &Options, rows: LentRows<'_>, column: usize) -> bool
     ensures { result ≡ spec.is_numeric options.now (texts_of rows.entry) column }
 {

@@ -39,7 +39,7 @@ fn count_of(alloc: Global, rows: usize, columns: usize) -> Result<String, AllocE
 }
 
 // The line below a table with rows of an input, of which so many columns are asked for.
-#[tactic(auto, using(crate::proofs::Rulesets::lengths))]
+#[tactic(auto, using(crate::proofs::LentTexts::lengths))]
 fn count_text(
     alloc: Global,
     options: &Options,

@@ -1,7 +1,7 @@
 use Rattle.std.proofs.Common.{◌≡◌, ◌+◌, ◌<◌, ◌≤◌, ℕ, List, below_more, get_or, ap, arith}
 use Rattle.pg_config.specs.Config.{Config}
 use Rattle.ruled_table.specs.Layouts.{line_of}
-use Rattle.ruled_table.proofs.FittingColumns.{fitting-is, line-more}
+use Rattle.ruled_table.proofs.LentTexts.{fitting-is, line-more}
 use Rattle.ruled_table.proofs.omission.fitting.Goals as goal
 
 pub loop-shown-preserved : goal.loop-shown-preserved

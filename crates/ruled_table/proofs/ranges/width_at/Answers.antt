@@ -3,7 +3,7 @@ use Rattle.std.specs.List.{list_all}
 use Rattle.csv.specs.Records.{fields_of}
 use Rattle.pg_layout.specs.Text.{Text, is_plain_byte}
 use Rattle.pg_layout.proofs.TextLines.{text_width_of-plain}
-use Rattle.ruled_table.proofs.PlainRecords.{field-plain}
+use Rattle.ruled_table.proofs.LentTexts.{field-plain}
 use Rattle.ruled_table.proofs.ranges.width_at.Goals as goal
 
 pub returns-in-Some : goal.returns-in-Some

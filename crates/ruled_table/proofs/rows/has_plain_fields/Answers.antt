@@ -2,7 +2,7 @@ use Rattle.std.proofs.Common.{◌≡◌, ◌∙◌, sym, ap, rules}
 use Rattle.std.specs.List.{list_all}
 use Rattle.csv.specs.Records.{Row}
 use Rattle.pg_layout.specs.Text.{is_plain_byte}
-use Rattle.ruled_table.proofs.PlainRecords.{fields-pass}
+use Rattle.ruled_table.proofs.LentTexts.{fields-pass}
 use Rattle.ruled_table.proofs.rows.has_plain_fields.Goals as goal
 
 pub returns-clause-plain : goal.returns-clause-plain

@@ -10,7 +10,7 @@ use Rattle.pg_fit.specs.Rows.{row_height}
 use Rattle.ruled_table.specs.Columns.{drawn_at}
 use Rattle.ruled_table.specs.Shown.{shown_text}
 use Rattle.ruled_table.specs.Widths.{room_of, text_within, widths_in}
-use Rattle.ruled_table.proofs.PlainRecords.{height-push}
+use Rattle.ruled_table.proofs.LentTexts.{height-push}
 use Rattle.ruled_table.proofs.RowsInParts.{within-all, within-next}
 use Rattle.ruled_table.proofs.table_rows.fill_plain.Goals as goal
 

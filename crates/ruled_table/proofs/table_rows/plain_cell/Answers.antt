@@ -5,7 +5,7 @@ use Rattle.ruled_table.specs.Columns.{drawn_at}
 use Rattle.ruled_table.specs.Shown.{shown_text}
 use Rattle.ruled_table.specs.Widths.{text_within}
 use Rattle.ruled_table.specs.declared.options.Options.{Options}
-use Rattle.ruled_table.proofs.PlainRecords.{plain-line, plain-within}
+use Rattle.ruled_table.proofs.LentTexts.{plain-line, plain-within}
 use Rattle.ruled_table.proofs.table_rows.plain_cell.Goals as goal
 
 pub returns-then-text-room-clause-cell : goal.returns-then-text-room-clause-cell

@@ -6,7 +6,7 @@ use Rattle.pg_layout.specs.Text.{Text}
 use Rattle.pg_table.proofs.ListedSizes.{seam}
 use Rattle.ruled_table.specs.Columns.{texts_of}
 use Rattle.ruled_table.specs.Bounds.{widest_text}
-use Rattle.ruled_table.proofs.NaturalWidths.{counted-texts, spaced-fault, spaced-widths}
+use Rattle.ruled_table.proofs.Tables.{counted-texts, spaced-fault, spaced-widths}
 use Rattle.ruled_table.proofs.widths.natural_sizes.Goals as goal
 
 pub returns-then-add_spaces-clause-widths : goal.returns-then-add_spaces-clause-widths

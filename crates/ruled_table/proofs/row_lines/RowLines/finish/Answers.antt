@@ -3,8 +3,7 @@ use Rattle.pg_layout.specs.Text.{Text}
 use Rattle.pg_stream.specs.LiveStreams.{Living}
 use Rattle.ruled_table.specs.Layouts.{heights_of}
 use Rattle.ruled_table.specs.RowLines.{ended, note_below, state_of}
-use Rattle.ruled_table.proofs.RowsInParts.{handed-on}
-use Rattle.ruled_table.proofs.RowPictures.{below, ends-alive, ends-counted, ends-here, ends-whole}
+use Rattle.ruled_table.proofs.RowsInParts.{handed-on, below, ends-alive, ends-counted, ends-here, ends-whole}
 use Rattle.ruled_table.proofs.row_lines.RowLines.finish.Goals as goal
 
 pub returns-clause-end : goal.returns-clause-end

@@ -1,5 +1,5 @@
 use Rattle.ruled_table.specs.Layouts.{cells_of}
-use Rattle.ruled_table.proofs.RowPictures.{even-cells}
+use Rattle.ruled_table.proofs.RowsInParts.{even-cells}
 use Rattle.ruled_table.proofs.table_rows.TableRows.finish.Goals as goal
 
 pub returns-clause-end : goal.returns-clause-end

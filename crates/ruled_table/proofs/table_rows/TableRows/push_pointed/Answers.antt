@@ -10,7 +10,7 @@ use Rattle.ruled_table.specs.Layouts.{cells_of, Measures, Plan, plan_in, with_co
 use Rattle.ruled_table.specs.Shown.{shown_row}
 use Rattle.ruled_table.specs.Widths.{row_within}
 use Rattle.ruled_table.specs.declared.options.Options.{Options}
-use Rattle.ruled_table.proofs.PlainRecords.{cells-own}
+use Rattle.ruled_table.proofs.LentTexts.{cells-own}
 use Rattle.ruled_table.proofs.RowsInParts.{cells-next}
 use Rattle.ruled_table.proofs.table_rows.TableRows.push_pointed.Goals as goal
 
