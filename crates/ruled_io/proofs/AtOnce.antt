@@ -16,8 +16,8 @@ use Rattle.ruled_table.specs.Columns.{column_fault}
 use Rattle.ruled_table.specs.Layouts.{colored, layout_fault, layout_of, start_fault, whole_text, Plan, is_always, is_in_blocks, leaves_columns_out}
 use Rattle.ruled_table.specs.Arranged.{arranged, chosen_fault, chosen_rows, sort_fault}
 use Rattle.ruled_table.specs.View.{all_excess, all_fault, all_text, excess_of, measured_fault, shows_blocks, table_fault, whole_fault, whole_table}
-use Rattle.ruled_table.specs.declared.fault.ViewFault.{ViewFault}
-use Rattle.ruled_table.specs.declared.fault.ViewFault.TheVariants as view
+use Rattle.ruled_table.specs.declared.view.ViewFault.{ViewFault}
+use Rattle.ruled_table.specs.declared.view.ViewFault.TheVariants as view
 use Rattle.ruled_table.specs.declared.options.Options.{Options}
 use Rattle.ruled_table.specs.declared.options.Vertical.{Vertical}
 use Rattle.ruled_table.specs.declared.options.Vertical.TheVariants.{Always, IfOmitting, Never}

@@ -12,8 +12,8 @@ use Rattle.ruled_table.specs.Tables.{is_memory as is_lost}
 use Rattle.ruled_table.specs.Layouts.{colored, first_fault, layout_of, Plan}
 use Rattle.ruled_table.specs.RowLines.{begun_text}
 use Rattle.ruled_table.specs.View.{excess_of}
-use Rattle.ruled_table.specs.declared.fault.ViewFault.{ViewFault}
-use Rattle.ruled_table.specs.declared.fault.ViewFault.TheVariants as view
+use Rattle.ruled_table.specs.declared.view.ViewFault.{ViewFault}
+use Rattle.ruled_table.specs.declared.view.ViewFault.TheVariants as view
 use Rattle.ruled_table.specs.declared.options.Options.{Options}
 use Rattle.ruled_io.specs.Faults.{but_line, but_line_in, is_failure, of_view}
 use Rattle.ruled_io.specs.Reading.{Stands, sound_rows, wrong_in}

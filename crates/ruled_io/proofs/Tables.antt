@@ -10,8 +10,8 @@ use Rattle.pg_layout.specs.Text.{Text}
 use Rattle.ruled_json.specs.Streamed.{LineRules}
 use Rattle.ruled_table.specs.RowLines.{HasAppended, GrowsTo, HasNoRoom, TellsRoom, begun_text}
 use Rattle.ruled_table.specs.Layouts.{whole_text, Plan}
-use Rattle.ruled_table.specs.declared.fault.ViewFault.{ViewFault}
-use Rattle.ruled_table.specs.declared.fault.ViewFault.TheVariants as view
+use Rattle.ruled_table.specs.declared.view.ViewFault.{ViewFault}
+use Rattle.ruled_table.specs.declared.view.ViewFault.TheVariants as view
 use Rattle.ruled_table.specs.declared.options.Options.{Options}
 use Rattle.ruled_table.specs.declared.table_rows.TableRows.{TableRows}
 use Rattle.ruled_io.specs.Faults.{IsOfRead, but_line, but_line_in, is_failure, is_of_write, of_view}

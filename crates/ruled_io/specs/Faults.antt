@@ -12,8 +12,8 @@ use Rattle.ruled_sql.specs.declared.fault.QueryFault.TheVariants as query
 use Rattle.ruled_sql.specs.declared.fault.SqlFault.{SqlFault}
 use Rattle.ruled_sql.specs.declared.fault.SqlFault.TheVariants as sql
 use Rattle.ruled_database.specs.declared.fault.TableFault.TheVariants as table
-use Rattle.ruled_table.specs.declared.fault.ViewFault.{ViewFault}
-use Rattle.ruled_table.specs.declared.fault.ViewFault.TheVariants as view
+use Rattle.ruled_table.specs.declared.view.ViewFault.{ViewFault}
+use Rattle.ruled_table.specs.declared.view.ViewFault.TheVariants as view
 use Rattle.ruled_io.specs.declared.fault.FurtherFault.{FurtherFault}
 use Rattle.ruled_io.specs.declared.fault.FurtherFault.TheVariants as further
 use Rattle.ruled_io.specs.declared.fault.InputFault.{InputFault}

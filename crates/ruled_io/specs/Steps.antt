@@ -18,7 +18,7 @@ use Rattle.ruled_io.specs.declared.fault.RunFault.TheVariants.{Input, Read, Clos
 use Rattle.ruled_io.specs.declared.formats.Format.{Format}
 use Rattle.ruled_io.specs.declared.reader.Reading.{Reading}
 use Rattle.ruled_io.specs.declared.reader.Reading.TheVariants.{More, Done}
-use Rattle.ruled_table.specs.declared.fault.ViewFault.{ViewFault}
+use Rattle.ruled_table.specs.declared.view.ViewFault.{ViewFault}
 use Rattle.ruled_table.specs.declared.options.Options.{Options}
 
 -- a text that is written grows to another one

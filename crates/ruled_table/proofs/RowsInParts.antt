@@ -32,8 +32,8 @@ use Rattle.pg_stream.specs.Streams.{OnlyMemory, TellsRow}
 use Rattle.pg_stream.specs.declared.fault.StreamFault.{StreamFault}
 use Rattle.pg_stream.specs.declared.fault.StreamFault.TheVariants as stream
 use Rattle.ruled_table.specs.Tables.{fault_of_stream, is_memory}
-use Rattle.ruled_table.specs.declared.fault.ViewFault.{ViewFault}
-use Rattle.ruled_table.specs.declared.fault.ViewFault.TheVariants.{Memory, Totals}
+use Rattle.ruled_table.specs.declared.view.ViewFault.{ViewFault}
+use Rattle.ruled_table.specs.declared.view.ViewFault.TheVariants.{Memory, Totals}
 use Rattle.std.proofs.lemmas.Simd.{map-map}
 use Rattle.pg_config.specs.Config.{Config}
 use Rattle.ruled_table.proofs.LentTexts.{rows-shown}

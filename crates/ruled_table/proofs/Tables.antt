@@ -13,10 +13,10 @@ use Rattle.pg_picture.specs.Table.{Known, Table, full_width, total_width}
 use Rattle.ruled_table.specs.Bounds.{bounded_fault, bounded_table, are_counted, widest_text}
 use Rattle.ruled_table.specs.Tables.{fault_with, text_with, with_line, Tells, is_memory, fault_of_stream}
 use Rattle.ruled_table.specs.declared.bounds.Bounds.{Bounds}
-use Rattle.ruled_table.specs.declared.fault.ViewFault.TheVariants.{Totals, Memory}
+use Rattle.ruled_table.specs.declared.view.ViewFault.TheVariants.{Totals, Memory}
 use Rattle.std.specs.Option.{option_or}
 use Rattle.std.specs.Result.{IsErrAnd, MatchResult}
-use Rattle.ruled_table.specs.declared.fault.ViewFault.{ViewFault}
+use Rattle.ruled_table.specs.declared.view.ViewFault.{ViewFault}
 use Rattle.std.proofs.Math.Seq.{drop-nil}
 use Rattle.ruled_table.specs.Arranged.{arranged, chosen_rows, ends_of, last_of, tails}
 use Rattle.ruled_table.specs.Columns.{column_fault, drawn_at, fields_at, texts_at}

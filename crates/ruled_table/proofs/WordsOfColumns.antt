@@ -19,8 +19,8 @@ use Rattle.pg_layout.specs.Text.{Text}
 use Rattle.ruled_table.specs.Columns.{asked, asked_by, asked_or_all, before, behind, columns_in, columns_of, excluded, has_part, is_left_out, left_out_by, meant, missing_word, number_in}
 use Rattle.ruled_table.specs.Tables.{Tells, is_memory}
 use Rattle.ruled_table.specs.Numbers.{are_digits, is_digit}
-use Rattle.ruled_table.specs.declared.fault.ViewFault.{ViewFault}
-use Rattle.ruled_table.specs.declared.fault.ViewFault.TheVariants.{Column}
+use Rattle.ruled_table.specs.declared.view.ViewFault.{ViewFault}
+use Rattle.ruled_table.specs.declared.view.ViewFault.TheVariants.{Column}
 
 -- ---- signs at the ends of texts
 

@@ -9,8 +9,8 @@ use Rattle.ruled_table.specs.Numbers.{gap}
 use Rattle.ruled_table.specs.Order.{sorted_in}
 use Rattle.ruled_table.specs.Shown.{heads}
 use Rattle.ruled_table.specs.Sides.{body_of}
-use Rattle.ruled_table.specs.declared.fault.ViewFault.{ViewFault}
-use Rattle.ruled_table.specs.declared.fault.ViewFault.TheVariants as fault
+use Rattle.ruled_table.specs.declared.view.ViewFault.{ViewFault}
+use Rattle.ruled_table.specs.declared.view.ViewFault.TheVariants as fault
 use Rattle.ruled_table.specs.declared.options.Options.{Options}
 use Rattle.ruled_table.specs.declared.options.Sort.{Sort}
 

@@ -9,8 +9,8 @@ use Rattle.std.specs.Borrow.{Bor}
 use Rattle.std.specs.Str.{bytes_eq}
 use Rattle.pg_layout.specs.Text.{Text}
 use Rattle.ruled_table.specs.Numbers.{are_digits}
-use Rattle.ruled_table.specs.declared.fault.ViewFault.{ViewFault}
-use Rattle.ruled_table.specs.declared.fault.ViewFault.TheVariants.{Column}
+use Rattle.ruled_table.specs.declared.view.ViewFault.{ViewFault}
+use Rattle.ruled_table.specs.declared.view.ViewFault.TheVariants.{Column}
 use Rattle.csv.specs.Records.{Row, fields_of}
 use Rattle.ruled_table.specs.declared.lent_rows.LentRows.{LentRows}
 use Rattle.ruled_table.specs.declared.paired_rows.PairTexts.{PairTexts}

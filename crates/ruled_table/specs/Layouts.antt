@@ -25,8 +25,8 @@ use Rattle.pg_table.specs.declared.overflow.Overflow.{Overflow}
 use Rattle.ruled_table.specs.Tables.{totals_of}
 use Rattle.ruled_table.specs.Sides.{extents_of, pointed_row, ruler_of}
 use Rattle.ruled_table.specs.Widths.{first_config, row_within, widths_fault, widths_of}
-use Rattle.ruled_table.specs.declared.fault.ViewFault.{ViewFault}
-use Rattle.ruled_table.specs.declared.fault.ViewFault.TheVariants.{Totals}
+use Rattle.ruled_table.specs.declared.view.ViewFault.{ViewFault}
+use Rattle.ruled_table.specs.declared.view.ViewFault.TheVariants.{Totals}
 
 -- ---- columns in the middle that are left out for want of room, and the column of `…` in their place
 

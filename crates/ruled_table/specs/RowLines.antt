@@ -12,8 +12,8 @@ use Rattle.ruled_table.specs.Sides.{pointed_row}
 use Rattle.ruled_table.specs.Shown.{color_in, shown_row}
 use Rattle.ruled_table.specs.Widths.{row_within}
 use Rattle.ruled_table.specs.declared.colors.TextColors.{TextColors}
-use Rattle.ruled_table.specs.declared.fault.ViewFault.{ViewFault}
-use Rattle.ruled_table.specs.declared.fault.ViewFault.TheVariants.{Totals}
+use Rattle.ruled_table.specs.declared.view.ViewFault.{ViewFault}
+use Rattle.ruled_table.specs.declared.view.ViewFault.TheVariants.{Totals}
 use Rattle.ruled_table.specs.declared.options.Options.{Options}
 use Rattle.ruled_table.specs.declared.table_rows.TableRows.{TableRows}
 use Rattle.ruled_table.specs.declared.row_lines.RowLines.{RowLines}

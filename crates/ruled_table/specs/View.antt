@@ -10,7 +10,7 @@ use Rattle.ruled_table.specs.Columns.{places_of, pairs_of}
 use Rattle.ruled_table.specs.Shown.{color_beside, look_config, shown_row, shown_text}
 use Rattle.ruled_table.specs.Tables.{fault_with, text_with}
 use Rattle.ruled_table.specs.declared.bounds.Bounds.{Bounds}
-use Rattle.ruled_table.specs.declared.fault.ViewFault.{ViewFault}
+use Rattle.ruled_table.specs.declared.view.ViewFault.{ViewFault}
 use Rattle.ruled_table.specs.declared.options.Options.{Options}
 use Rattle.csv.specs.Records.{fields_of}
 use Rattle.ruled_table.specs.declared.blocks.Blocks.{Blocks}

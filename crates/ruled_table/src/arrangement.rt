@@ -6,10 +6,10 @@ ghost use Rattle.ruled_table.specs.Arranged as spec;
 ghost use Rattle.ruled_table.specs.Tables.{Tells};
 
 use crate::columns::{field_at, first_meant};
-use crate::fault::ViewFault;
 use crate::options::{Options, Sort};
 use crate::order::sorted;
-use ruled_row::TextRow;
+use crate::view::ViewFault;
+use csv::StringRecord;
 use std::alloc::{AllocError, Global};
 
 // The greater one of a number and of how many fields a row has.

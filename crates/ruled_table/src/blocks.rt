@@ -13,11 +13,12 @@ ghost use Rattle.ruled_table.specs.declared.options.Options.{Options};
 
 use crate::colors::TextColors;
 use crate::columns::places_of;
-use crate::fault::ViewFault;
 use crate::options::Options;
 use crate::paired_rows::PairedRows;
 use crate::rows::{all_stand, made_record};
 use crate::table::{look_config, push_text};
+use crate::view::ViewFault;
+use csv::StringRecord;
 use pg_config::SpannedConfig;
 use ruled_row::TextRow;
 use std::alloc::{AllocError, Global};

@@ -8,11 +8,11 @@ ghost use Rattle.std.specs.Str.{bytes_eq};
 ghost use Rattle.csv.specs.Records.{fields_of};
 ghost use Rattle.ruled_table.specs.Columns as spec;
 ghost use Rattle.ruled_table.specs.Tables.{Tells};
-ghost use Rattle.ruled_table.specs.declared.fault.ViewFault.TheVariants.{Column};
+ghost use Rattle.ruled_table.specs.declared.view.ViewFault.TheVariants.{Column};
 
-use crate::fault::ViewFault;
 use crate::numbers::are_digits;
-use ruled_row::TextRow;
+use crate::view::ViewFault;
+use csv::StringRecord;
 use std::alloc::{AllocError, Global};
 use std::collections::{HashMap, HashSet};
 

@@ -10,12 +10,12 @@ ghost use Rattle.ruled_table.specs.Shown.{shown_text};
 ghost use Rattle.ruled_table.specs.View.{excess_of};
 
 use crate::columns::places_of;
-use crate::fault::ViewFault;
 use crate::lent_rows::LentRows;
 use crate::omission::{abridge, note_of, shown_columns};
 use crate::options::{Options, Vertical};
 use crate::points::{Extent, extents_of, fields_in, ruler_of};
 use crate::rows::{all_stand, shown_records};
+use crate::view::ViewFault;
 use crate::widths::{first_config, sizes_of_rows};
 use pg_config::SpannedConfig;
 use pg_layout::ConstantDimension;

@@ -12,12 +12,12 @@ ghost use Rattle.ruled_table.specs.RowLines.{AreEven, HasDrawn, GrowsTo, HasNoRo
 ghost use Rattle.ruled_table.specs.Tables.{Tells};
 ghost use Rattle.ruled_table.specs.Layouts.{start_fault, whole_of, Plan, plan_in, with_colors};
 ghost use Rattle.ruled_table.specs.Shown.{color_in};
-ghost use Rattle.ruled_table.specs.declared.fault.ViewFault.{ViewFault};
-ghost use Rattle.ruled_table.specs.declared.fault.ViewFault.TheVariants.{Memory};
+ghost use Rattle.ruled_table.specs.declared.view.ViewFault.{ViewFault};
+ghost use Rattle.ruled_table.specs.declared.view.ViewFault.TheVariants.{Memory};
 
 use crate::colors::TextColors;
-use crate::fault::ViewFault;
 use crate::layout::Layout;
+use crate::view::ViewFault;
 use pg_fit::row_height;
 use pg_layout::ConstantDimension;
 use pg_stream::SizedStream;

@@ -13,18 +13,18 @@ ghost use Rattle.ruled_table.specs.Layouts.{start_fault, whole_text, Plan, plan_
 ghost use Rattle.ruled_table.specs.Sides.{pointed_row};
 ghost use Rattle.ruled_table.specs.Shown.{color_in, shown_row, shown_text};
 ghost use Rattle.ruled_table.specs.Widths as spec;
-ghost use Rattle.ruled_table.specs.declared.fault.ViewFault.{ViewFault};
-ghost use Rattle.ruled_table.specs.declared.fault.ViewFault.TheVariants.{Memory};
+ghost use Rattle.ruled_table.specs.declared.view.ViewFault.{ViewFault};
+ghost use Rattle.ruled_table.specs.declared.view.ViewFault.TheVariants.{Memory};
 ghost use Rattle.ruled_table.specs.declared.options.Options.{Options};
 
 use crate::colors::TextColors;
 use crate::columns::{drawn_at, field_at};
-use crate::fault::ViewFault;
 use crate::layout::Layout;
 use crate::options::Options;
 use crate::points::pointed_record;
 use crate::row_lines::RowLines;
 use crate::rows::{is_plain_record, shown_text, stands};
+use crate::view::ViewFault;
 use crate::widths::{lent_within, room_of};
 use pg_layout::{ConstantDimension, get_text_width};
 use ruled_row::TextRow;

@@ -1,18 +1,21 @@
-//! The rows that are shown, and the line below them.
+//! The text of rows, and why there is none.
 
-ghost use Rattle.std.specs.Prelude.{◌≡◌, map, string_bytes, IfOk};
+ghost use Rattle.std.specs.Prelude.{◌≡◌, map, string_bytes, IfOk, ◌⊎◌};
 ghost use Rattle.csv.specs.Records.{fields_of};
-ghost use Rattle.ruled_table.specs.Tables.{Tells};
+ghost use Rattle.ruled_table.specs.Tables.{Tells, fault_of_stream};
 ghost use Rattle.ruled_table.specs.Arranged as spec;
+ghost use Rattle.pg_table.specs.declared.fault.TableFault.{TableFault};
+ghost use Rattle.ruled_table.specs.declared.view.ViewFault.TheVariants.{Memory, Totals};
 
 use crate::arrangement::arranged;
 use crate::columns::places_of;
-use crate::fault::ViewFault;
 use crate::options::Options;
 use crate::rows::{ends, heads, tails};
 use crate::sides::body_of;
-use ruled_row::TextRow;
-use std::alloc::{AllocError, Global};
+use csv::StringRecord;
+use pg_stream::StreamFault;
+use pg_table::TableFault;
+use std::alloc::{AllocError, AllocFailed, Global};
 
 /// The rows that are shown of an input.
 #[derive(Drop)]
@@ -73,4 +76,56 @@ pub fn chosen_rows(
     let count = count_text(alloc, options, &rows, columns)?;
     let rows = ends(alloc, options, tails(options, rows))?;
     Ok(Chosen { rows, count })
+}
+
+/// Why rows have no table.
+#[derive(Clone, Copy)]
+pub enum ViewFault {
+    /// Row 0 has no column for this word, of those that [`crate::Options::columns`] lists, counted from 0, or no column
+    /// stays.
+    Column(usize),
+    /// Row 0 has no column for the word of [`crate::Options::sort`].
+    Sort,
+    /// The sizes of the table are too large.
+    Totals,
+    /// Out of memory.
+    Memory,
+}
+
+impl From<AllocError> for ViewFault {
+    ghost from_gives = { λ _ fault. fault ≡ Memory };
+
+    fn from(_error: AllocError) -> ViewFault {
+        ViewFault::Memory
+    }
+}
+
+impl<T: Drop> From<AllocFailed<T>> for ViewFault {
+    ghost from_gives = { λ _ fault. fault ≡ Memory };
+
+    fn from(_error: AllocFailed<T>) -> ViewFault {
+        ViewFault::Memory
+    }
+}
+
+impl From<StreamFault> for ViewFault {
+    ghost from_gives = { λ found fault. fault ≡ fault_of_stream found };
+
+    fn from(fault: StreamFault) -> ViewFault {
+        match fault {
+            StreamFault::Memory => ViewFault::Memory,
+            _ => ViewFault::Totals,
+        }
+    }
+}
+
+/// Why a table isn't printed.
+pub(crate) fn fault_in(fault: TableFault) -> ViewFault
+    ensures two { result ≡ Memory ⊎ result ≡ Totals }
+    ensures memory { fault ≡ TableFault.Memory → result ≡ Memory }
+{
+    match fault {
+        TableFault::Memory => ViewFault::Memory,
+        _ => ViewFault::Totals,
+    }
 }

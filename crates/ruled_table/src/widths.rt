@@ -6,12 +6,12 @@ ghost use Rattle.ruled_table.specs.Tables.{Tells, totals_of};
 ghost use Rattle.ruled_table.specs.Columns.{texts_of};
 ghost use Rattle.ruled_table.specs.Widths as spec;
 
-use crate::fault::{ViewFault, fault_in};
 use crate::lent_rows::LentRows;
 use crate::numbers::is_number;
 use crate::options::Options;
 use crate::ranges::{kept_limits, widest_texts};
 use crate::table::{line_in, set_line_below, sided_config};
+use crate::view::{ViewFault, fault_in};
 use pg_config::SpannedConfig;
 use pg_fit::{cut, wrap};
 use pg_layout::{ConstantDimension, ExactRecords, NoColors, Records, get_text_width};

@@ -8,7 +8,7 @@ use Rattle.pg_layout.specs.Text.{Text}
 use Rattle.ruled_table.specs.View.{blocks_fault, blocks_text, all_excess, all_fault, all_text, shows_blocks, whole_table}
 use Rattle.ruled_table.specs.Columns.{column_fault}
 use Rattle.ruled_table.specs.Layouts.{Plan, is_in_blocks, plan_in, layout_fault, layout_of, start_fault}
-use Rattle.ruled_table.specs.declared.fault.ViewFault.{ViewFault}
+use Rattle.ruled_table.specs.declared.view.ViewFault.{ViewFault}
 use Rattle.ruled_io.specs.Steps.{Draws}
 use Rattle.ruled_io.proofs.AtOnce.{blocks-excess, draws-with, excess-measured, measured-wrong, none-draws, none-excess, returned-with, same-draws, told-with, view-draws}
 use Rattle.ruled_io.proofs.Shows.{above-none}

@@ -9,7 +9,7 @@ use Rattle.pg_layout.specs.Colors.{Color}
 use Rattle.pg_layout.specs.declared.position.Position.{Position}
 use Rattle.ruled_table.specs.RowLines.{HasAppended}
 use Rattle.ruled_table.specs.Layouts.{plan_in, with_colors, colored, first_fault, layout_fault, layout_of, start_fault}
-use Rattle.ruled_table.specs.declared.fault.ViewFault.{ViewFault}
+use Rattle.ruled_table.specs.declared.view.ViewFault.{ViewFault}
 use Rattle.ruled_io.specs.Faults.{of_view}
 use Rattle.ruled_io.specs.declared.fault.RunFault.TheVariants.{Input}
 use Rattle.ruled_io.specs.declared.program.Remarks.{Remarks}

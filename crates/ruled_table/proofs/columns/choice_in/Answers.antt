@@ -3,7 +3,7 @@ use Rattle.std.proofs.lemmas.Grind.{common_steps}
 use Rattle.std.proofs.lemmas.Iterator.Adapters.{position_from-zero}
 use Rattle.csv.specs.Records.{fields_of}
 use Rattle.ruled_table.specs.Columns.{meant}
-use Rattle.ruled_table.specs.declared.fault.ViewFault.TheVariants.{Column}
+use Rattle.ruled_table.specs.declared.view.ViewFault.TheVariants.{Column}
 use Rattle.ruled_table.proofs.WordsOfColumns.{asked_next, left_out_next, missing_here, missing_next}
 use Rattle.ruled_table.proofs.columns.choice_in.Goals as goal
 

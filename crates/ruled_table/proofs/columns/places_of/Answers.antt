@@ -4,8 +4,8 @@ use Rattle.std.specs.Option.{option_or}
 use Rattle.csv.specs.Records.{fields_of}
 use Rattle.ruled_table.specs.Columns.{column_fault, last_word, missing_word}
 use Rattle.ruled_table.specs.Tables.{Tells}
-use Rattle.ruled_table.specs.declared.fault.ViewFault.{ViewFault}
-use Rattle.ruled_table.specs.declared.fault.ViewFault.TheVariants.{Column}
+use Rattle.ruled_table.specs.declared.view.ViewFault.{ViewFault}
+use Rattle.ruled_table.specs.declared.view.ViewFault.TheVariants.{Column}
 use Rattle.ruled_table.proofs.columns.places_of.Goals as goal
 
 pub returns-in-len1-up-clause-fault : goal.returns-in-len1-up-clause-fault

@@ -6,7 +6,7 @@ use Rattle.pg_picture.specs.Appending.{GainedBeginning}
 use Rattle.ruled_table.specs.Tables.{Tells}
 use Rattle.ruled_table.specs.Columns.{pairs_in}
 use Rattle.ruled_table.specs.Shown.{color_in}
-use Rattle.ruled_table.specs.declared.fault.ViewFault.{ViewFault}
+use Rattle.ruled_table.specs.declared.view.ViewFault.{ViewFault}
 use Rattle.ruled_table.proofs.Tables.{fault_drawn, fault_none, text_drawn, text_none}
 use Rattle.ruled_table.proofs.table.push_text.Goals as goal
 

@@ -6,7 +6,7 @@ use Rattle.ruled_table.specs.Tables.{totals_of}
 use Rattle.ruled_table.specs.Layouts.{but_last, plan_fault}
 use Rattle.ruled_table.specs.Columns.{fields_at, texts_at}
 use Rattle.ruled_table.specs.Widths.{HasSpaces, first_config, widths_fault, widths_in, widths_of}
-use Rattle.ruled_table.specs.declared.fault.ViewFault.{ViewFault}
+use Rattle.ruled_table.specs.declared.view.ViewFault.{ViewFault}
 use Rattle.ruled_table.proofs.Tables.{first-spaces, plain-config, told_on}
 use Rattle.ruled_table.proofs.RowsInParts.{but-last-map, plan-made}
 use Rattle.ruled_table.proofs.layout.Layout.of_columns.Goals as goal

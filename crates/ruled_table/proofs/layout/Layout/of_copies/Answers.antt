@@ -8,7 +8,7 @@ use Rattle.ruled_table.specs.Tables.{Tells}
 use Rattle.ruled_table.specs.Layouts.{extents_in, measured_in, places_in, sizes_fault_by, Plan, plan_in}
 use Rattle.ruled_table.specs.Sides.{ruler_of}
 use Rattle.ruled_table.specs.Shown.{shown_text}
-use Rattle.ruled_table.specs.declared.fault.ViewFault.{ViewFault}
+use Rattle.ruled_table.specs.declared.view.ViewFault.{ViewFault}
 use Rattle.ruled_table.proofs.RowsInParts.{extents-lent, layout-lent, sizes-lent}
 use Rattle.ruled_table.proofs.Tables.{then_told}
 use Rattle.ruled_table.proofs.layout.Layout.of_copies.Goals as goal

@@ -5,7 +5,7 @@ use Rattle.pg_layout.specs.Text.{Text}
 use Rattle.ruled_table.specs.Columns.{ellipsis, texts_at}
 use Rattle.ruled_table.specs.Tables.{Tells}
 use Rattle.ruled_table.specs.Layouts.{plan_by, plan_fault, abridged, note_of, shown_columns, Plan, plan_in}
-use Rattle.ruled_table.specs.declared.fault.ViewFault.{ViewFault}
+use Rattle.ruled_table.specs.declared.view.ViewFault.{ViewFault}
 use Rattle.ruled_table.specs.declared.points.Extent.{Extent}
 use Rattle.ruled_table.proofs.LentTexts.{rows-abridged}
 use Rattle.ruled_table.proofs.RowsInParts.{all-fault, all-laid, some-fault, some-laid}

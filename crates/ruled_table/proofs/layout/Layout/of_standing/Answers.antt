@@ -10,7 +10,7 @@ use Rattle.ruled_table.specs.Columns.{column_fault}
 use Rattle.ruled_table.specs.Tables.{Tells}
 use Rattle.ruled_table.specs.Layouts.{extents_in, measured_in, places_in, sizes_fault_by, Plan, plan_in}
 use Rattle.ruled_table.specs.Sides.{ruler_of}
-use Rattle.ruled_table.specs.declared.fault.ViewFault.{ViewFault}
+use Rattle.ruled_table.specs.declared.view.ViewFault.{ViewFault}
 use Rattle.ruled_table.proofs.RowsInParts.{extents-lent, layout-lent, ruled, sizes-lent}
 use Rattle.ruled_table.proofs.layout.Layout.of_standing.Goals as goal
 

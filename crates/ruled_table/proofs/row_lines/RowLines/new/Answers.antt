@@ -4,7 +4,7 @@ use Rattle.ruled_table.specs.Tables.{Tells}
 use Rattle.ruled_table.specs.Layouts.{start_fault, start_of, Measures, Plan, plan_in, with_colors}
 use Rattle.ruled_table.specs.RowLines.{state_of}
 use Rattle.ruled_table.specs.Shown.{color_in}
-use Rattle.ruled_table.specs.declared.fault.ViewFault.{ViewFault}
+use Rattle.ruled_table.specs.declared.view.ViewFault.{ViewFault}
 use Rattle.ruled_table.proofs.Tables.{fits-all, fits-made, none-started, some-columns, start-colored, started}
 use Rattle.ruled_table.proofs.row_lines.RowLines.new.Goals as goal
 
