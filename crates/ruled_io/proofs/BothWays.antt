@@ -24,11 +24,10 @@ use Rattle.ruled_table.specs.declared.options.Options.{Options}
 use Rattle.ruled_table.specs.declared.options.Sort.{Sort}
 use Rattle.ruled_io.specs.Faults.{fault_of_json, fault_of_rows, of_view}
 use Rattle.ruled_io.specs.Formats.{content_of}
-use Rattle.ruled_io.specs.Input.{format_fault, input_fault, rows_in, rows_of}
+use Rattle.ruled_io.specs.Input.{format_fault, input_fault, rows_in, rows_of, fault_from, further_fault, joined, joined_rows, rows_held, rows_of_all}
 use Rattle.ruled_io.specs.Laws.{AllAreFirst, AtOnceShowsAsStreams, BothWaysFindOneFault, IsStreamable, ShowsEachRow, StreamsShowAsAtOnce}
 use Rattle.ruled_io.specs.Reading.{sound_rows, wrong_in}
 use Rattle.ruled_io.specs.Requests.{format_told, holds_database, members_of, rows_needed}
-use Rattle.ruled_io.specs.Further.{fault_from, further_fault, joined, joined_rows, rows_held, rows_of_all}
 use Rattle.ruled_io.specs.Runs.{AreRows, AreRowsAs}
 use Rattle.ruled_io.specs.Stream.{first_count, first_plan, first_wrong, line_rules, shown_text, streamed_count, streamed_fault, streamed_format, streamed_rows, streamed_wrong}
 use Rattle.ruled_io.specs.declared.fault.InputFault.TheVariants.{Stream}

@@ -2,8 +2,7 @@
 use Rattle.std.proofs.Common.{◌≡◌, ℕ, ◌<◌, zero, suc, min, true, List, [], ◌∷◌, ◌++◌, Option, None, Some, arith, length, option_map, refl, subst, ◌+◌, ◌-◌, ◌≤◌, take, drop, slice_range, sym, ap, ◌∙◌}
 use Rattle.std.specs.Prelude.{IsSomeAnd}
 use Rattle.std.specs.Io.KnownBytes.{prepend_known}
-use Rattle.ruled_io.specs.Decodings.{IsOver, KeepsDecoding}
-use Rattle.ruled_io.specs.Encodings.{Decoding, behind}
+use Rattle.ruled_io.specs.Encodings.{IsOver, KeepsDecoding, Decoding, behind}
 use Rattle.std.proofs.lemmas.List.{append-nil, take_at, drop_at, take-append-le, drop-append-le, drop-take, drop-drop, length-take-le, length-drop}
 use borrow.Rule.Slice.PartMut.{put_mid, post_of}
 use lib.Seq.{take-add}

@@ -15,7 +15,7 @@ use Rattle.csv.specs.Records.{field_at}
 use Rattle.pg_layout.specs.Text.{Text}
 use Rattle.ruled_table.specs.declared.options.Options.{Options}
 use Rattle.ruled_io.specs.Faults.{but_line_further, but_line_in, is_memory, of_further}
-use Rattle.ruled_io.specs.Further.{fault_from, fault_held, further_fault, joined, joined_rows, misfit, names_columns, rows_held, rows_of_all}
+use Rattle.ruled_io.specs.Input.{fault_from, fault_held, further_fault, joined, joined_rows, misfit, names_columns, rows_held, rows_of_all}
 use Rattle.ruled_io.specs.Requests.{is_ragged}
 use Rattle.ruled_io.specs.Steps.{beneath}
 use Rattle.ruled_io.specs.declared.fault.FurtherFault.{FurtherFault}

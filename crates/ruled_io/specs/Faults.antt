@@ -1,5 +1,5 @@
--- Why a run shows no table, or not all of it.
-use Rattle.std.specs.Prelude.{◌≡◌, ◌⊎◌, ℕ, Bool, true, false, not, Option, Some, None, Result, Ok, Err, List, codes}
+-- Why a run shows no table, or not all of it, and names in error lines.
+use Rattle.std.specs.Prelude.{◌≡◌, ◌⊎◌, ℕ, Bool, true, false, not, Option, Some, None, Result, Ok, Err, List, codes, ◌++◌, ◌==◌, chars, if◌then◌else◌}
 use Rattle.ruled_csv.specs.declared.fault.RowsFault.{RowsFault}
 use Rattle.ruled_csv.specs.declared.fault.RowsFault.TheVariants as rows
 use Rattle.ruled_csv.specs.Faults as csv
@@ -26,6 +26,10 @@ use Rattle.ruled_io.specs.declared.output.WriteFault.{WriteFault}
 use Rattle.ruled_io.specs.declared.output.WriteFault.TheVariants as write
 use Rattle.ruled_io.specs.declared.fault.StreamedFault.{StreamedFault}
 use Rattle.ruled_io.specs.declared.fault.StreamedFault.TheVariants as streamed
+use Rattle.std.specs.Char.{encode_utf8}
+use Rattle.std.specs.List.{flat_map}
+use Rattle.pg_fit.specs.Controls.{sign_of}
+use Rattle.pg_layout.specs.Text.{Text}
 
 -- ---- exit statuses
 
@@ -228,3 +232,20 @@ fault_of_write write.Failed = Write
 abbrev pub streamed_fault_text : StreamedFault → List ℕ
 streamed_fault_text streamed.Value = codes "a single JSON value can't be streamed"
 streamed_fault_text streamed.Database = codes "a database can't be streamed"
+
+-- ---- names in error lines
+
+-- what a line shows for a character: for a line feed its picture, `␊`, and for any other the character that a table shows
+abbrev pub sign_in_line : ℕ → ℕ
+sign_in_line c = if c == 10 then 0x240A else sign_of c
+
+abbrev pub shown_in_line : ℕ → Text
+shown_in_line c = encode_utf8 (sign_in_line c)
+
+-- a text on one line, without a character on which a terminal acts
+unfoldable pub line_text : Text → Text
+line_text text = flat_map shown_in_line (chars text)
+
+-- what is named, in quotes
+abbrev pub quoted_text : Text → Text
+quoted_text name = codes "'" ++ (line_text name ++ codes "'")

@@ -1,18 +1,43 @@
--- The rows that an input holds.
-use Rattle.std.specs.Prelude.{ℕ, nat_lt, List, length, take, Option, Some, None, option_map, if◌then◌else◌}
+-- The rows that an input holds, those of several inputs, and those that are asked of a database.
+use Rattle.std.specs.Prelude.{ℕ, nat_lt, List, length, take, Option, Some, None, option_map, if◌then◌else◌, suc, ◌==◌, ◌&&◌, ◌||◌, Bool, false, [], ◌∷◌, ◌++◌, drop, map, ◌≡◌, ⊤}
+use Rattle.std.specs.Prelude.{string_bytes}
 use Rattle.csv.specs.Reading.{strip_bom}
 use Rattle.pg_layout.specs.Text.{Text}
 use Rattle.ruled_csv.specs.Rows as csv_rows
 use Rattle.ruled_csv.specs.Faults as csv_faults
 use Rattle.ruled_json.specs.Rows as json_rows
-use Rattle.ruled_json.specs.Rows.{Rules}
+use Rattle.ruled_json.specs.Rows.{Rules, rules_of}
 use Rattle.ruled_json.specs.Faults as json_faults
-use Rattle.ruled_io.specs.Faults.{fault_of_json, fault_of_rows}
+use Rattle.ruled_io.specs.Faults.{fault_of_json, fault_of_rows, of_further, but_line_in}
 use Rattle.ruled_io.specs.Formats.{content_of, format_in}
 use Rattle.ruled_io.specs.declared.fault.InputFault.{InputFault}
 use Rattle.ruled_io.specs.declared.formats.Format.{Format}
 use Rattle.ruled_io.specs.declared.formats.Format.TheVariants.{Separated, Json, JsonLines}
 use Rattle.ruled_io.specs.declared.formats.Known.{Known}
+use Rattle.std.specs.Cmp.Lexicographic.{pointwise}
+use Rattle.std.specs.List.{flat_map}
+use Rattle.std.specs.Option.{option_or}
+use Rattle.std.specs.Str.{bytes_eq}
+use Rattle.ruled_table.specs.declared.options.Options.{Options}
+use Rattle.ruled_io.specs.Requests.{format_told, holds_database, is_ragged, members_of, known_in}
+use Rattle.ruled_io.specs.declared.fault.FurtherFault.{FurtherFault}
+use Rattle.ruled_io.specs.declared.fault.FurtherFault.TheVariants.{Header, Length}
+use Rattle.ruled_io.specs.declared.fault.FurtherFault.TheVariants as further
+use Rattle.ruled_io.specs.declared.fault.InputFault.TheVariants.{Further}
+use Rattle.ruled_io.specs.declared.request.FurtherInput.{FurtherInput}
+use Rattle.ruled_sql.specs.Answers.{AreAnswered, HoldsNone}
+use Rattle.ruled_database.specs.Listings.{AreTable, IsListing, LacksListing, LacksTable}
+use Rattle.ruled_database.specs.declared.fault.DatabaseFault.{DatabaseFault}
+use Rattle.ruled_sql.specs.declared.fault.SqlFault.{SqlFault}
+use Rattle.ruled_sql.specs.declared.fault.SqlFault.TheVariants as sql
+use Rattle.ruled_io.specs.declared.fault.InputFault.TheVariants as input
+use Rattle.ruled_io.specs.declared.request.Selection.{Selection}
+use Rattle.ruled_io.specs.declared.request.Selection.TheVariants.{Query as Select, Table, Tables}
+use Rattle.ruled_io.specs.declared.request.Query.{Query}
+use Rattle.ruled_sql.specs.Filled.{AreQueried}
+use Rattle.ruled_table.specs.Arranged.{named, padded}
+
+-- ---- the rows of one input
 
 -- the rows of a format, of which the first is row 0; these rules say how JSON has them
 abbrev pub rows_of : Rules → Format → List ℕ → List (List Text)
@@ -46,3 +71,124 @@ rows_in limit members known bytes = rows_within limit members (format_in known b
 
 abbrev pub input_fault : Option ℕ → Rules → Known → List ℕ → Option InputFault
 input_fault limit members known bytes = fault_within limit members (format_in known bytes) (content_of (format_in known bytes) bytes)
+
+-- ---- several inputs, whose rows are one table
+
+-- ---- their rows
+
+-- row 0 of each input names the columns
+abbrev pub names_columns : Options → Bool
+names_columns options = options.has_header && (length options.names.items == 0)
+
+-- the rows of a further input
+abbrev pub rows_held : FurtherInput → List (List Text)
+rows_held input = rows_in None (members_of input.source) (format_told input.source) input.bytes.items
+
+-- all rows of all inputs, also each row 0
+abbrev pub rows_of_all : List FurtherInput → List (List Text) → List (List Text)
+rows_of_all inputs first = flat_map (λ rows. rows) (first ∷ map rows_held inputs)
+
+-- the rows of their table: those of each input in turn, but row 0 once where it names the columns
+abbrev pub joined_rows : Options → List (List (List Text)) → List (List Text)
+joined_rows options inputs =
+    if names_columns options then take 1 (flat_map (λ rows. rows) inputs) ++ flat_map (drop 1) inputs else flat_map (λ rows. rows) inputs
+
+abbrev pub joined : Options → List FurtherInput → List (List Text) → List (List Text)
+joined options inputs first = joined_rows options (first ∷ map rows_held inputs)
+
+-- ---- what is wrong with them
+
+-- rows of an input aren't those of a table: their row 0 isn't its row 0, or, where that names no columns, has another number of fields and rows aren't ragged
+abbrev pub misfit : Options → Bool → List (List Text) → List (List Text) → Option FurtherFault
+misfit options ragged [] rows = None
+misfit options ragged (first ∷ table) [] = None
+misfit options ragged (first ∷ table) (row ∷ rows) =
+    if names_columns options then if pointwise bytes_eq first row then None else Some Header
+    else if ragged || (length first == length row) then None else Some Length
+
+-- why a further input, the one of this number, has no rows
+abbrev pub fault_held : ℕ → FurtherInput → Option InputFault
+fault_held number input =
+    if holds_database input.source input.bytes.items then Some (Further number further.Database)
+    else option_map (of_further number) (input_fault None (members_of input.source) (format_told input.source) input.bytes.items)
+
+-- why it has none, or why they aren't those of this table
+abbrev pub fault_in : Options → List (List Text) → ℕ → FurtherInput → Option InputFault
+fault_in options table number input =
+    option_or (fault_held number input) (option_map (Further number) (misfit options (is_ragged input.source) table (rows_held input)))
+
+-- what is wrong with the first of these inputs with which anything is, where they are numbered from here on
+abbrev pub fault_from : Options → List (List Text) → ℕ → List FurtherInput → Option InputFault
+fault_from options table number [] = None
+fault_from options table number (input ∷ inputs) = option_or (fault_in options table number input) (fault_from options table (suc number) inputs)
+
+abbrev pub further_fault : Options → List FurtherInput → List (List Text) → Option InputFault
+further_fault options inputs first = fault_from options (rows_of_all inputs first) 0 inputs
+
+-- ---- the rows that are asked of a database, or by a query
+
+-- the table of these rows that a query reads
+abbrev pub table_of : Query → List (List Text) → List (List Text)
+table_of query rows = if query.is_padded then padded (named (map string_bytes query.names.items) rows) else named (map string_bytes query.names.items) rows
+
+-- how the rows are read, where they are JSON
+abbrev pub members_in : Query → Rules
+members_in query = rules_of query.members
+
+-- what a query answers of these rows, or of a database
+abbrev pub AreAnswer : Option Known → Query → List ℕ → List (List Text) → Type 0
+AreAnswer None query bytes rows = AreAnswered bytes (string_bytes query.text) query.steps (string_bytes query.null) rows
+AreAnswer (Some known) query bytes rows =
+    (input_fault None (members_in query) known bytes ≡ None)
+    × AreQueried (string_bytes query.table) (table_of query (rows_in None (members_in query) known bytes)) (string_bytes query.text) query.steps (string_bytes query.null) rows
+
+-- what a query answers, the rows of a table, or the list of the tables
+abbrev pub AreSelected : Option Selection → List ℕ → List (List Text) → Type 0
+AreSelected None bytes rows = IsListing bytes rows
+AreSelected (Some (Select query)) bytes rows = AreAnswer (known_in query.known bytes) query bytes rows
+AreSelected (Some (Table name null_text)) bytes rows = AreTable bytes (string_bytes name) (string_bytes null_text) rows
+AreSelected (Some Tables) bytes rows = IsListing bytes rows
+
+-- why a query has no rows, where the input has them
+abbrev pub LacksAnswerOf : Option Known → Query → List ℕ → SqlFault → Type 0
+LacksAnswerOf None query bytes fault = fault ≡ sql.Database → HoldsNone bytes
+LacksAnswerOf (Some known) query bytes fault =
+    (input_fault None (members_in query) known bytes ≡ None) × (fault ≡ sql.NoRows → table_of query (rows_in None (members_in query) known bytes) ≡ [])
+
+abbrev pub LacksAnswer : Option Selection → List ℕ → SqlFault → Type 0
+LacksAnswer None bytes fault = ⊥
+LacksAnswer (Some (Select query)) bytes fault = LacksAnswerOf (known_in query.known bytes) query bytes fault
+LacksAnswer (Some (Table name null_text)) bytes fault = ⊥
+LacksAnswer (Some Tables) bytes fault = ⊥
+
+-- or the input has none
+abbrev pub LacksTableOf : Option Known → Query → List ℕ → InputFault → Type 0
+LacksTableOf None query bytes fault = ⊥
+LacksTableOf (Some known) query bytes fault = input_fault None (members_in query) known bytes ≡ Some (but_line_in fault)
+
+abbrev pub LacksQueried : Option Selection → List ℕ → InputFault → Type 0
+LacksQueried None bytes fault = ⊥
+LacksQueried (Some (Select query)) bytes fault = LacksTableOf (known_in query.known bytes) query bytes fault
+LacksQueried (Some (Table name null_text)) bytes fault = ⊥
+LacksQueried (Some Tables) bytes fault = ⊥
+
+-- why a table has none, or there is no list
+abbrev pub LacksStored : Option Selection → List ℕ → DatabaseFault → Type 0
+LacksStored None bytes fault = LacksListing bytes fault
+LacksStored (Some (Select query)) bytes fault = ⊥
+LacksStored (Some (Table name null_text)) bytes fault = LacksTable bytes (string_bytes name) (string_bytes null_text) fault
+LacksStored (Some Tables) bytes fault = LacksListing bytes fault
+
+-- why there are no rows, unless memory was refused
+abbrev pub LacksSelected : Option Selection → List ℕ → InputFault → Type 0
+LacksSelected selection bytes (input.Rows fault) = LacksQueried selection bytes (input.Rows fault)
+LacksSelected selection bytes (input.Json fault) = LacksQueried selection bytes (input.Json fault)
+LacksSelected selection bytes (input.Sql fault) = LacksAnswer selection bytes fault
+LacksSelected selection bytes (input.Database fault) = LacksStored selection bytes fault
+LacksSelected selection bytes input.Log = ⊥
+LacksSelected selection bytes (input.Stream fault) = ⊥
+LacksSelected selection bytes (input.Further number fault) = ⊥
+LacksSelected selection bytes (input.Column name) = ⊥
+LacksSelected selection bytes input.Sort = ⊥
+LacksSelected selection bytes input.Totals = ⊥
+LacksSelected selection bytes input.Memory = ⊤

@@ -1,12 +1,8 @@
-pub mod Databases
-pub mod Decodings
 pub mod Encodings
 pub mod Faults
 pub mod Formats
-pub mod Further
 pub mod Input
 pub mod Laws
-pub mod Names
 pub mod Output
 pub mod Reading
 pub mod Requests

@@ -4,10 +4,8 @@ use Rattle.std.specs.Io.KnownBytes.{Keeps}
 use Rattle.pg_layout.specs.Text.{Text}
 use Rattle.ruled_table.specs.Arranged.{padded_rows}
 use Rattle.ruled_table.specs.View.{table_excess, table_fault, table_text}
-use Rattle.ruled_io.specs.Databases.{AreSelected, LacksAnswer, LacksQueried, LacksStored}
+use Rattle.ruled_io.specs.Input.{AreSelected, LacksAnswer, LacksQueried, LacksStored, further_fault, joined, input_fault, rows_in}
 use Rattle.ruled_io.specs.Faults.{but_line_in, fault_of_view, is_memory}
-use Rattle.ruled_io.specs.Further.{further_fault, joined}
-use Rattle.ruled_io.specs.Input.{input_fault, rows_in}
 use Rattle.ruled_io.specs.Requests.{format_told, hides_rows, holds_database, inner_place, log_of, members_of, rows_needed, selection_of}
 use Rattle.ruled_io.specs.Stream.{StopsStream, streamed_fault, streamed_remarks, streamed_text, streamed_wrong}
 use Rattle.ruled_io.specs.Output.{Begins}

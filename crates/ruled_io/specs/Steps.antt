@@ -5,7 +5,7 @@ use Rattle.pg_layout.specs.Text.{Text}
 use Rattle.ruled_table.specs.Layouts.{Plan}
 use Rattle.ruled_table.specs.RowLines.{HasNoRoom, begun_text}
 use Rattle.ruled_io.specs.Faults.{but_line, but_line_in, fault_of_view, is_early, is_failure, is_memory, is_read}
-use Rattle.ruled_io.specs.Further.{names_columns}
+use Rattle.ruled_io.specs.Input.{names_columns}
 use Rattle.ruled_json.specs.Rows.{plain_rules}
 use Rattle.ruled_json.specs.Streamed.{LineRules}
 use Rattle.ruled_io.specs.Reading.{sound_rows, wrong_in}

@@ -2,7 +2,7 @@
 
 ghost use Rattle.std.specs.Prelude.{◌≡◌, None, Some, map, option_map, true, IfErr, IfOk};
 ghost use Rattle.csv.specs.Records.{fields_of};
-ghost use Rattle.ruled_io.specs.Databases.{AreAnswer, AreSelected, LacksSelected, table_of};
+ghost use Rattle.ruled_io.specs.Input.{AreAnswer, AreSelected, LacksSelected, table_of};
 ghost use Rattle.ruled_io.specs.Requests.{known_in};
 ghost use Rattle.ruled_io.specs.Runs.{AreAsked, LacksRowsAs};
 ghost use Rattle.ruled_io.specs.declared.request.Selection.TheVariants.{Query as Select};

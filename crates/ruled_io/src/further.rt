@@ -5,7 +5,7 @@ ghost use Rattle.std.specs.Cmp.Lexicographic.{pointwise};
 ghost use Rattle.std.specs.Str.{bytes_eq};
 ghost use Rattle.csv.specs.Records.{fields_of};
 ghost use Rattle.ruled_io.specs.Faults.{Tells};
-ghost use Rattle.ruled_io.specs.Further as spec;
+ghost use Rattle.ruled_io.specs.Input as spec;
 ghost use Rattle.ruled_io.specs.Steps.{beneath};
 
 use crate::fault::{FurtherFault, InputFault};

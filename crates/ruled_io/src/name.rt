@@ -2,7 +2,7 @@
 
 ghost use Rattle.std.specs.Prelude.{◌≡◌, Some};
 ghost use Rattle.std.specs.Fmt.{DisplaysOnOk};
-ghost use Rattle.ruled_io.specs.Names as spec;
+ghost use Rattle.ruled_io.specs.Faults as spec;
 
 use pg_fit::sign_of;
 use std::fmt;

@@ -4,7 +4,7 @@ use Rattle.std.proofs.lemmas.List.{length-map}
 use Rattle.csv.specs.Records.{fields_of}
 use Rattle.pg_layout.specs.Text.{Text}
 use Rattle.ruled_io.specs.Faults.{but_line_in, is_memory}
-use Rattle.ruled_io.specs.Further.{further_fault, joined}
+use Rattle.ruled_io.specs.Input.{further_fault, joined}
 use Rattle.ruled_io.specs.Requests.{rows_needed}
 use Rattle.ruled_io.specs.Runs.{AreRows, LacksInput, LacksInputs}
 use Rattle.ruled_io.specs.declared.fault.InputFault.TheVariants.{Memory}

@@ -1,6 +1,6 @@
 use Rattle.std.proofs.Common.{Err, Some, Option, ap, subst}
 use Rattle.ruled_sql.specs.declared.fault.SqlFault.{SqlFault}
-use Rattle.ruled_io.specs.Databases.{LacksAnswer, LacksAnswerOf}
+use Rattle.ruled_io.specs.Input.{LacksAnswer, LacksAnswerOf}
 use Rattle.ruled_io.specs.declared.formats.Known.{Known}
 use Rattle.ruled_io.specs.declared.request.Selection.TheVariants.{Query as Select}
 use Rattle.ruled_io.proofs.Causes.{of_query}

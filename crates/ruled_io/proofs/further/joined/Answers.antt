@@ -1,7 +1,7 @@
 use Rattle.std.proofs.Common.{◌≡◌, ◌∙◌, List, Option, None, Some, map, refl, sym, ap}
 use Rattle.csv.specs.Records.{fields_of}
 use Rattle.pg_layout.specs.Text.{Text}
-use Rattle.ruled_io.specs.Further.{misfit, rows_held}
+use Rattle.ruled_io.specs.Input.{misfit, rows_held}
 use Rattle.ruled_io.specs.Requests.{is_ragged}
 use Rattle.ruled_io.specs.Steps.{beneath}
 use Rattle.ruled_io.proofs.Joined.{joins-on, leads-on, misfit-wrong}

@@ -4,7 +4,7 @@ use Rattle.std.proofs.lemmas.Iterator.{YieldsList-from_chars}
 use Rattle.std.proofs.lemmas.Iterator.Consumers.{YieldsList-end}
 use Rattle.std.proofs.lemmas.List.Concat.{flat_map-append}
 use Rattle.std.specs.Fmt.{HasWritten}
-use Rattle.ruled_io.specs.Names.{line_text, shown_in_line}
+use Rattle.ruled_io.specs.Faults.{line_text, shown_in_line}
 use Rattle.ruled_io.proofs.name.write_line.Goals as goal
 
 pub loop-c-init : goal.loop-c-init

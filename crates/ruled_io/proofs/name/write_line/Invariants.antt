@@ -1,6 +1,6 @@
 use Rattle.std.proofs.Common.{flat_map}
 use Rattle.std.specs.Fmt.{HasWritten, IsPlainFormatter}
-use Rattle.ruled_io.specs.Names.{shown_in_line}
+use Rattle.ruled_io.specs.Faults.{shown_in_line}
 use Rattle.ruled_io.proofs.name.write_line.Given as goal
 
 abbrev pub invariant-loop-c : goal.invariant-loop-c
