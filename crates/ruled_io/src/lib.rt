@@ -13,7 +13,6 @@ mod heads;
 mod input;
 mod laws;
 mod lines;
-mod name;
 mod output;
 mod pieces;
 mod program;
@@ -24,10 +23,11 @@ mod window;
 
 pub use crate::decoded::Decoded;
 pub use crate::encoding::Encoding;
-pub use crate::fault::{FurtherFault, InputFault, ReadFault, RunFault, StreamedFault};
+pub use crate::fault::{
+    FurtherFault, InputFault, OneLine, Quoted, ReadFault, RunFault, StreamedFault,
+};
 pub use crate::formats::{Format, Kind, Known};
 pub use crate::laws::both_ways_show_one_text;
-pub use crate::name::{OneLine, Quoted};
 pub use crate::output::Output;
 pub use crate::pieces::Pieces;
 pub use crate::program::{Ending, Remarks, run};

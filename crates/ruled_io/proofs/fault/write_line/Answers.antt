@@ -5,7 +5,7 @@ use Rattle.std.proofs.lemmas.Iterator.Consumers.{YieldsList-end}
 use Rattle.std.proofs.lemmas.List.Concat.{flat_map-append}
 use Rattle.std.specs.Fmt.{HasWritten}
 use Rattle.ruled_io.specs.Faults.{line_text, shown_in_line}
-use Rattle.ruled_io.proofs.name.write_line.Goals as goal
+use Rattle.ruled_io.proofs.fault.write_line.Goals as goal
 
 pub loop-c-init : goal.loop-c-init
 loop-c-init g c = λ plain. record { wrote = writes_in_calls_nil _ _; plain = plain }
