@@ -42,7 +42,7 @@ use Rattle.ruled_io.specs.declared.request.Request.{Request}
 use Rattle.ruled_io.specs.declared.request.Selection.{Selection}
 use Rattle.ruled_io.specs.declared.request.Selection.TheVariants.{Query as Select}
 use Rattle.ruled_io.specs.declared.request.Source.{Source}
-use Rattle.ruled_io.proofs.Written.{begins-all, begins-kept}
+use Rattle.ruled_io.proofs.Readers.{begins-all, begins-kept}
 
 -- ---- the rows of all bytes
 

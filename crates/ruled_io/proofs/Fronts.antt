@@ -1,10 +1,24 @@
--- What the first bytes of an input show of all of it.
-use Rattle.std.proofs.Common.{◌≡◌, ◌∙◌, ◌≢◌, ◌⊎◌, inl, inr, ℕ, ◌≤◌, ◌<◌, ◌&&◌, not, Bool, true, false, List, [], ◌∷◌, ◌++◌, Option, Some, None, drop, get_or, length, min, take, add-one, suc, ◌+◌, nat_eq, nat_lt, eq-eqb, refl, sym, ap, subst, arith, rules}
-use Rattle.std.specs.Prelude.{◌==◌, ◌||◌, ⊤, nat_le, codes, is_some, if◌then◌else◌}
-use Rattle.std.specs.List.{count_by, before_first, list_any, position_or_len, starts_with}
+-- What the first bytes of an input show: how they spell text, and which format they have.
+use Rattle.std.proofs.Common.{◌≡◌, ℕ, ◌<◌, ◌≤◌, ◌⊎◌, inl, inr, Bool, true, false, not, ◌&&◌, ◌||◌, List, [], ◌∷◌, ◌++◌, Option, Some, None, arith, encode_utf8, encode_utf8_all, get_or}
+use Rattle.std.proofs.Common.{is_some, length, refl, sym, ap, ◌∙◌, if◌then◌else◌, zero, suc, min, option_map, subst, ◌+◌, ◌-◌, take, drop, slice_range, ◌≢◌, add-one, nat_eq, nat_lt, eq-eqb}
+use Rattle.std.proofs.Common.{rules}
+use Rattle.std.specs.Char.{InScalarRange}
+use Rattle.std.specs.Char.Utf16.{is_high_surrogate, is_low_surrogate, lone_unit_char, surrogate_pair_char, utf16_chars}
+use Rattle.std.specs.List.{list_any, count_by, before_first, position_or_len, starts_with}
+use Rattle.std.specs.Option.{some_prefix}
+use Rattle.std.proofs.lemmas.Str.{utf16_chars-nil, utf16_chars_lone}
+use borrow.Author.Tests.{le-leb, le-ltb, lt-leb, lt-ltb}
+use Rattle.ruled_io.specs.Encodings.{Decoding, ShowsFirst, behind, decoding_by, is_half, unit_of, units, IsOver, KeepsDecoding}
+use Rattle.ruled_io.specs.declared.encoding.First.TheVariants.{Char, Nothing, Part}
+use Rattle.ruled_io.specs.declared.encoding.Order.{Order}
+use Rattle.ruled_io.specs.declared.encoding.Scheme.TheVariants.{Utf16}
+use Rattle.std.specs.Prelude.{IsSomeAnd, ◌==◌, ⊤, nat_le, codes}
+use Rattle.std.specs.Io.KnownBytes.{prepend_known}
+use Rattle.std.proofs.lemmas.List.{append-nil, take_at, drop_at, take-append-le, drop-append-le, drop-take, drop-drop, length-take-le, length-drop, drop_all, length-take, take_all}
+use borrow.Rule.Slice.PartMut.{put_mid, post_of}
+use lib.Seq.{take-add}
 use Rattle.std.proofs.Math.Seq.{drop-cons}
 use Rattle.std.proofs.lemmas.List.Sums.{sum_by-cons}
-use Rattle.std.proofs.lemmas.List.{drop-append-le, drop_all, length-take, take_all}
 use Rattle.std.proofs.lemmas.Bool.Decides.{nat_tests}
 use Rattle.std.proofs.lemmas.Bool.{and_parts, cases_Bool, eqb-true, false≢true, ne_eqb}
 use Rattle.std.proofs.lemmas.List.Folds.{find-append}
@@ -12,12 +26,207 @@ use Rattle.csv.specs.Reading.{is_bom, strip_bom}
 use Rattle.ruled_csv.specs.Quotes.{is_comment, line_behind, is_quote}
 use Rattle.ruled_csv.specs.Kept.{first_row_behind, from_first_row}
 use Rattle.ruled_csv.specs.declared.dialect.RowRules.{RowRules}
-use Rattle.ruled_io.specs.Formats.{count_of, delimiter_seen, ends_line, first_line, first_sign, format_from, format_shown, is_database, outside, separated, setting_in, setting_of, values_seen}
+use Rattle.ruled_io.specs.Formats.{count_of, delimiter_seen, ends_line, first_line, first_sign, format_from, format_shown, is_database, outside, separated, setting_in, setting_of}
+use Rattle.ruled_io.specs.Formats.{values_seen}
 use Rattle.ruled_io.specs.Reading.{HoldsOn, SetsAlike, ShowsInput, ShowsText}
 use Rattle.ruled_io.specs.declared.formats.Format.{Format}
 use Rattle.ruled_io.specs.declared.formats.Format.TheVariants.{Separated, Json, JsonLines}
 use Rattle.ruled_io.specs.declared.formats.Known.{Known}
 use Rattle.ruled_io.specs.declared.formats.Known.TheVariants as known
+
+-- ---- characters of units
+
+module _ (unit : ℕ) (rest : List ℕ) where
+  scalar-chars : (unit < 0xD800) ⊎ (0xE000 ≤ unit) → utf16_chars (unit ∷ rest) ≡ Some unit ∷ utf16_chars rest
+  scalar-chars (inl low) =
+      let same : lone_unit_char unit ≡ Some unit = rw (lt-leb 0xD800 unit low) refl in
+      utf16_chars_lone unit rest (λ pair. absurd (omega (arith, low, pair.0))) ∙ ap (λ (c : Option ℕ). c ∷ utf16_chars rest) same
+  scalar-chars (inr high) =
+      let from : 0xD800 ≤ unit = omega (arith, high) in
+      let same : lone_unit_char unit ≡ Some unit = rw (le-leb 0xD800 unit from, le-ltb unit 0xE000 high) refl in
+      utf16_chars_lone unit rest (λ pair. absurd (omega (arith, high, pair.1))) ∙ ap (λ (c : Option ℕ). c ∷ utf16_chars rest) same
+
+  module _ (from : 0xD800 ≤ unit) (below : unit < 0xE000) where
+    lone : lone_unit_char unit ≡ None
+    lone = rw (le-leb 0xD800 unit from, lt-ltb unit 0xE000 below) refl
+
+    -- a lower surrogate begins no pair
+    lower-chars : 0xDC00 ≤ unit → utf16_chars (unit ∷ rest) ≡ None ∷ utf16_chars rest
+    lower-chars low = utf16_chars_lone unit rest (λ pair. absurd (omega (arith, low, pair.1))) ∙ ap (λ (c : Option ℕ). c ∷ utf16_chars rest) lone
+
+    last-chars : utf16_chars (unit ∷ []) ≡ None ∷ utf16_chars []
+    last-chars = utf16_chars_lone unit [] (λ pair. absurd (omega (arith, pair.2))) ∙ ap (λ (c : Option ℕ). c ∷ utf16_chars []) lone
+
+    -- nor does one in front of another unit
+    apart-chars : (next : ℕ) → (is_high_surrogate unit && is_low_surrogate next) ≡ false → utf16_chars (unit ∷ next ∷ rest) ≡ None ∷ utf16_chars (next ∷ rest)
+    unfolding utf16_chars
+    apart-chars next apart =
+        ap (λ (t : Bool). if t then (Some (surrogate_pair_char unit next) ∷ utf16_chars rest) else (lone_unit_char unit ∷ utf16_chars (next ∷ rest))) apart
+        ∙ ap (λ (c : Option ℕ). c ∷ utf16_chars (next ∷ rest)) lone
+
+  pair-chars : (next : ℕ) → (is_high_surrogate unit && is_low_surrogate next) ≡ true → utf16_chars (unit ∷ next ∷ rest) ≡ Some (surrogate_pair_char unit next) ∷ utf16_chars rest
+  unfolding utf16_chars
+  pair-chars next pair =
+      ap (λ (t : Bool). if t then (Some (surrogate_pair_char unit next) ∷ utf16_chars rest) else (lone_unit_char unit ∷ utf16_chars (next ∷ rest))) pair
+
+-- the text of characters
+abbrev shaped : List (Option ℕ) → Bool → Decoding
+shaped chars half = record { text = encode_utf8_all (some_prefix chars); is_cut = list_any (λ o. not (is_some o)) chars || half }
+
+-- ---- what bytes that begin with a unit spell
+
+module _ (order : Order) (unit first second : ℕ) (is : unit ≡ unit_of order first second) where
+  scalar-first : (rest : List ℕ) → (unit < 0xD800) ⊎ (0xE000 ≤ unit) → decoding_by (Utf16 order) (first ∷ second ∷ rest) ≡ behind (encode_utf8 unit) (decoding_by (Utf16 order) rest)
+  scalar-first rest scalar =
+      ap (λ (u : ℕ). shaped (utf16_chars (u ∷ units order rest)) (is_half rest)) (sym is)
+      ∙ ap (λ (chars : List (Option ℕ)). shaped chars (is_half rest)) (scalar-chars unit (units order rest) scalar)
+
+  -- where the first unit spells no character
+  none-first : (rest : List ℕ) (chars : List (Option ℕ)) → utf16_chars (unit ∷ units order rest) ≡ None ∷ chars → decoding_by (Utf16 order) (first ∷ second ∷ rest) ≡ record { text = []; is_cut = true }
+  none-first rest chars none =
+      ap (λ (u : ℕ). shaped (utf16_chars (u ∷ units order rest)) (is_half rest)) (sym is)
+      ∙ ap (λ (cs : List (Option ℕ)). shaped cs (is_half rest)) none
+
+  pair-first : (next third fourth : ℕ) (rest : List ℕ) → next ≡ unit_of order third fourth → (is_high_surrogate unit && is_low_surrogate next) ≡ true
+      → decoding_by (Utf16 order) (first ∷ second ∷ third ∷ fourth ∷ rest) ≡ behind (encode_utf8 (surrogate_pair_char unit next)) (decoding_by (Utf16 order) rest)
+  pair-first next third fourth rest same pair =
+      ap (λ (u : ℕ). shaped (utf16_chars (u ∷ unit_of order third fourth ∷ units order rest)) (is_half rest)) (sym is)
+      ∙ ap (λ (n : ℕ). shaped (utf16_chars (unit ∷ n ∷ units order rest)) (is_half rest)) (sym same)
+      ∙ ap (λ (cs : List (Option ℕ)). shaped cs (is_half rest)) (pair-chars unit (units order rest) next pair)
+
+  apart-first : (next third fourth : ℕ) (rest : List ℕ) → next ≡ unit_of order third fourth → 0xD800 ≤ unit → unit < 0xE000 → (is_high_surrogate unit && is_low_surrogate next) ≡ false
+      → decoding_by (Utf16 order) (first ∷ second ∷ third ∷ fourth ∷ rest) ≡ record { text = []; is_cut = true }
+  apart-first next third fourth rest same from below apart =
+      none-first (third ∷ fourth ∷ rest) (utf16_chars (next ∷ units order rest))
+      (ap (λ (n : ℕ). utf16_chars (unit ∷ n ∷ units order rest)) (sym same) ∙ apart-chars unit (units order rest) from below next apart)
+
+-- ---- what is found of them
+
+chosen : (b : Bool) (p c : ℕ) → Some c ≡ (if b then Some p else None) → (b ≡ true) × (c ≡ p)
+chosen true p c is = (refl, cc)
+chosen false p c is = cc
+
+refused : (b : Bool) (p : ℕ) → None ≡ (if b then Some p else None) → b ≡ false
+refused true p is = cc
+refused false p is = refl
+
+pub in-range : (unit : ℕ) → InScalarRange unit → (unit < 0xD800) ⊎ (0xE000 ≤ unit)
+in-range unit (inl low) = inl low
+in-range unit (inr high) = inr (omega (arith, high.0))
+
+pub part-shows : (order : Order) (bytes : List ℕ) → length bytes < 2 → ShowsFirst (Utf16 order) bytes Part
+part-shows order [] short = (omega arith, rw utf16_chars-nil refl)
+part-shows order (first ∷ []) short = (omega arith, rw utf16_chars-nil refl)
+part-shows order (first ∷ second ∷ bytes) short = absurd (omega arith)
+
+pub scalar-shows : (order : Order) (bytes : List ℕ) (unit c : ℕ) → 2 ≤ length bytes → unit ≡ unit_of order (get_or bytes 0 0) (get_or bytes 1 0) → (unit < 0xD800) ⊎ (0xE000 ≤ unit) → c ≡ unit
+    → ShowsFirst (Utf16 order) bytes (Char c 2)
+scalar-shows order [] unit c long is scalar same = absurd (omega arith)
+scalar-shows order (first ∷ []) unit c long is scalar same = absurd (omega arith)
+scalar-shows order (first ∷ second ∷ bytes) unit c long is scalar same =
+    (omega arith, omega arith, λ more. scalar-first order unit first second is (bytes ++ more) scalar ∙ ap (λ (u : ℕ). behind (encode_utf8 u) (decoding_by (Utf16 order) (bytes ++ more))) (sym same))
+
+module _ (order : Order) (high : ℕ) (from : 0xD800 ≤ high) (below : high < 0xE000) (first second : ℕ) (is : high ≡ unit_of order first second) where
+  pub half-shows : (rest : List ℕ) → length rest < 2 → high < 0xDC00 → ShowsFirst (Utf16 order) (first ∷ second ∷ rest) Part
+  half-shows [] short low = (omega arith, none-first order high first second is [] (utf16_chars []) (last-chars high [] from below))
+  half-shows (third ∷ []) short low = (omega arith, none-first order high first second is (third ∷ []) (utf16_chars []) (last-chars high [] from below))
+  half-shows (third ∷ fourth ∷ rest) short low = absurd (omega arith)
+
+  pub lower-shows : (rest : List ℕ) → 0xDC00 ≤ high → ShowsFirst (Utf16 order) (first ∷ second ∷ rest) Nothing
+  lower-shows rest low = λ more. none-first order high first second is (rest ++ more) (utf16_chars (units order (rest ++ more))) (lower-chars high (units order (rest ++ more)) from below low)
+
+  module _ (rest : List ℕ) (next : ℕ) (long : 2 ≤ length rest) (same : next ≡ unit_of order (get_or rest 0 0) (get_or rest 1 0)) where
+    pub pair-shows : (c : ℕ) → Some c ≡ (if is_high_surrogate high && is_low_surrogate next then Some (surrogate_pair_char high next) else None) → ShowsFirst (Utf16 order) (first ∷ second ∷ rest) (Char c 4)
+    pair-shows c found = pair-in rest long same c (chosen (is_high_surrogate high && is_low_surrogate next) (surrogate_pair_char high next) c found)
+      where
+        pair-in : (bytes : List ℕ) → 2 ≤ length bytes → next ≡ unit_of order (get_or bytes 0 0) (get_or bytes 1 0) → (c : ℕ) → ((is_high_surrogate high && is_low_surrogate next) ≡ true) × (c ≡ surrogate_pair_char high next) → ShowsFirst (Utf16 order) (first ∷ second ∷ bytes) (Char c 4)
+        pair-in [] enough at c it = absurd (omega arith)
+        pair-in (third ∷ []) enough at c it = absurd (omega arith)
+        pair-in (third ∷ fourth ∷ tail) enough at c it =
+            (omega arith, omega arith, λ more. pair-first order high first second is next third fourth (tail ++ more) at it.0 ∙ ap (λ (u : ℕ). behind (encode_utf8 u) (decoding_by (Utf16 order) (tail ++ more))) (sym it.1))
+
+    pub apart-shows : None ≡ (if is_high_surrogate high && is_low_surrogate next then Some (surrogate_pair_char high next) else None) → ShowsFirst (Utf16 order) (first ∷ second ∷ rest) Nothing
+    apart-shows found = apart-in rest long same (refused (is_high_surrogate high && is_low_surrogate next) (surrogate_pair_char high next) found)
+      where
+        apart-in : (bytes : List ℕ) → 2 ≤ length bytes → next ≡ unit_of order (get_or bytes 0 0) (get_or bytes 1 0) → (is_high_surrogate high && is_low_surrogate next) ≡ false → ShowsFirst (Utf16 order) (first ∷ second ∷ bytes) Nothing
+        apart-in [] enough at it = absurd (omega arith)
+        apart-in (third ∷ []) enough at it = absurd (omega arith)
+        apart-in (third ∷ fourth ∷ tail) enough at it = λ more. apart-first order high first second is next third fourth (tail ++ more) at from below it
+
+-- ---- what a read of text leaves of bytes that spell no character
+
+pub grown : (xs ys : List ℕ) (start end k n : ℕ) → start ≤ end → end ≤ length xs → n ≤ length ys
+    → slice_range (put_mid end k xs ys) start (end + n) ≡ slice_range xs start end ++ take n ys
+grown xs ys start end k n ordered within fits =
+    let front = length-take-le end xs within in
+    let held = drop start (take end xs) in
+    let len : length held ≡ end - start = omega (arith, length-drop start (take end xs)) in
+    let sum : end + n - start ≡ (end - start) + n = omega arith in
+    let parts : end ≡ start + (end - start) = omega arith in
+    let same : held ≡ take (end - start) (drop start xs) = ap (λ j. drop start (take j xs)) parts ∙ drop-take start (end - start) xs in
+    let after = ys ++ post_of end k xs in
+    ap (take (end + n - start)) (drop-append-le start (take end xs) after (omega arith))
+    ∙ ap (λ j. take j (held ++ after)) sum ∙ take-add (end - start) n (held ++ after)
+    ∙ (rw (take_at held after _ len, drop_at held after _ len, take-append-le n ys (post_of end k xs) fits, same) refl)
+
+pub kept : (xs ys : List ℕ) (start end k : ℕ) → start ≤ end → end ≤ length xs
+    → slice_range (put_mid end k xs ys) start end ≡ slice_range xs start end
+kept xs ys start end k ordered within =
+    let none : end ≡ end + 0 = omega arith in
+    ap (slice_range (put_mid end k xs ys) start) none ∙ grown xs ys start end k 0 ordered within (omega arith) ∙ append-nil _
+
+pub consumed : (xs : List ℕ) (start end count : ℕ) → start + count ≤ end
+    → slice_range xs (start + count) end ≡ drop count (slice_range xs start end)
+consumed xs start end count inside =
+    let parts : end - start ≡ count + (end - (start + count)) = omega arith in
+    sym (ap (λ j. drop count (take j (drop start xs))) parts ∙ drop-take count _ (drop start xs)
+    ∙ ap (take (end - (start + count))) (drop-drop count start xs))
+
+-- ---- readers of text
+
+-- a text, and then that of these bytes and of the input
+abbrev pub Left : (List ℕ → Decoding) → List ℕ → List ℕ → Option (List ℕ) → Option Decoding
+Left by text bytes input = option_map (λ all. behind text (by all)) (prepend_known bytes input)
+
+-- some of them spell no character
+abbrev pub Cut : Option Decoding → Type 0
+Cut left = IsSomeAnd left (λ decoding. decoding.is_cut ≡ true)
+
+pub keeps-then : (a b c : Option Decoding) → KeepsDecoding a b → KeepsDecoding b c → KeepsDecoding a c
+keeps-then None b c first second = tt
+keeps-then (Some decoding) b c first second = rw first at second
+
+pub cut-kept : (old new : Option Decoding) → KeepsDecoding old new → Cut old → Cut new
+cut-kept None new same cut = absurd cut
+cut-kept (Some decoding) new same cut = rw same cut
+
+over-whole : (left : Option Decoding) → IsOver left → ¬ (Cut left)
+over-whole None over = λ cut. cut
+over-whole (Some decoding) over = rw over (λ cut. cc)
+
+gives-cut : (by : List ℕ → Decoding) (front rest bytes : List ℕ) (input : Option (List ℕ)) → Cut (Left by (front ++ rest) bytes input) → Cut (Left by rest bytes input)
+gives-cut by front rest bytes None cut = absurd cut
+gives-cut by front rest bytes (Some xs) cut = cut
+
+nil-length : (xs : List ℕ) → length xs ≡ 0 → xs ≡ []
+nil-length [] none = refl
+nil-length (x ∷ xs) none = absurd (omega arith)
+
+no-room : (room : ℕ) → ¬ (0 < room) → room ≡ 0
+no-room zero none = refl
+no-room (suc room) none = absurd (none (omega arith))
+
+-- a read that gives some of the text that is held, of which there is none only at the end
+pub read-cuts : (old : Option Decoding) (by : List ℕ → Decoding) (held front rest bytes : List ℕ) (input : Option (List ℕ)) (n room : ℕ)
+    → KeepsDecoding old (Left by held bytes input) → held ≡ front ++ rest → n ≡ min room (length held) → (held ≡ [] → IsOver (Left by held bytes input))
+    → Cut old → Cut (Left by rest bytes input) × (n ≡ 0 → room ≡ 0)
+read-cuts old by held front rest bytes input n room same is count over cut =
+    let still : Cut (Left by held bytes input) = cut-kept old (Left by held bytes input) same cut in (
+      gives-cut by front rest bytes input (subst (λ (xs : List ℕ). Cut (Left by xs bytes input)) is still),
+      λ none. no-room room (λ some. over-whole (Left by held bytes input) (over (nil-length held (omega (arith, count, none, some)))) still),
+    )
+
+-- ---- what the first bytes of an input show of all of it
 
 -- ---- marks
 

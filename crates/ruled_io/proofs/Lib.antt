@@ -1,13 +1,8 @@
-mod AtOnce
 mod BothWays
 mod Causes
-mod Decodings
-mod Encodings
-mod Written
 mod Fronts
 mod Joined
 mod Inputs
 mod Readers
-mod SameLines
 mod Shows
 mod Tables

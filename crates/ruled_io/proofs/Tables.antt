@@ -26,9 +26,8 @@ use Rattle.ruled_io.specs.declared.formats.Format.{Format}
 use Rattle.ruled_io.specs.declared.reader.Reader.{Reader}
 use Rattle.ruled_io.specs.declared.reader.Reading.{Reading}
 use Rattle.ruled_io.specs.declared.reader.Reading.TheVariants.{More, Done}
-use Rattle.ruled_io.proofs.Written.{begun-on, begun-whole, grows-kept, grows-more, grows-nears, grows-none, nears-more, nears-none, nears-on}
+use Rattle.ruled_io.proofs.Readers.{begun-on, begun-whole, grows-kept, grows-more, grows-nears, grows-none, nears-more, nears-none, nears-on, stands-begin}
 use Rattle.ruled_io.proofs.Causes.{of-read}
-use Rattle.ruled_io.proofs.Readers.{stands-begin}
 
 -- ---- faults
 

@@ -3,7 +3,7 @@ use Rattle.csv.specs.Records.{fields_of}
 use Rattle.ruled_table.specs.View.{table_fault, table_text}
 use Rattle.ruled_io.specs.Reading.{read_failure}
 use Rattle.ruled_io.specs.Runs.{AreJoined, CausedAtOnce, LacksInputs}
-use Rattle.ruled_io.proofs.AtOnce.{draws-unread, no-read, read-handed, writes-only}
+use Rattle.ruled_io.proofs.Shows.{draws-unread, no-read, read-handed, writes-only}
 use Rattle.ruled_io.proofs.Causes.{after-drawn, draws-caused, early-handed, handed-known, if-so, lacks-caused, late, remarked-by, shown-drawn, unwritten-told}
 use Rattle.ruled_io.proofs.at_once.show_at_once.Goals as goal
 

@@ -5,7 +5,7 @@ use Rattle.pg_layout.specs.Text.{Text}
 use Rattle.ruled_table.specs.View.{blocks_fault, blocks_text, record_block, records_fault}
 use Rattle.ruled_table.specs.declared.view.ViewFault.{ViewFault}
 use Rattle.ruled_io.specs.Steps.{DrawsInMemory}
-use Rattle.ruled_io.proofs.AtOnce.{draws-so, drop-one, view-draws}
+use Rattle.ruled_io.proofs.Shows.{draws-so, drop-one, view-draws}
 use Rattle.ruled_io.proofs.at_once.show_blocks.Goals as goal
 
 pub returns-in_err-blocks-clause-draws : goal.returns-in_err-blocks-clause-draws

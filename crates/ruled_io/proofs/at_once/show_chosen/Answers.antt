@@ -5,7 +5,7 @@ use Rattle.ruled_table.specs.View.{blocks_fault, blocks_text, all_excess, all_fa
 use Rattle.ruled_table.specs.Columns.{column_fault}
 use Rattle.ruled_table.specs.Layouts.{is_always}
 use Rattle.ruled_io.specs.Steps.{Draws}
-use Rattle.ruled_io.proofs.AtOnce.{always-blocks, blocks-always, blocks-excess, draws-with, returned-with, same-draws, told-with}
+use Rattle.ruled_io.proofs.Shows.{always-blocks, blocks-always, blocks-excess, draws-with, returned-with, same-draws, told-with}
 use Rattle.ruled_io.proofs.at_once.show_chosen.Goals as goal
 
 abbrev no-width : Option ℕ

@@ -10,8 +10,7 @@ use Rattle.ruled_table.specs.Columns.{column_fault}
 use Rattle.ruled_table.specs.Layouts.{Plan, is_in_blocks, plan_in, layout_fault, layout_of, start_fault}
 use Rattle.ruled_table.specs.declared.view.ViewFault.{ViewFault}
 use Rattle.ruled_io.specs.Steps.{Draws}
-use Rattle.ruled_io.proofs.AtOnce.{blocks-excess, draws-with, excess-measured, measured-wrong, none-draws, none-excess, returned-with, same-draws, told-with, view-draws}
-use Rattle.ruled_io.proofs.Shows.{above-none}
+use Rattle.ruled_io.proofs.Shows.{blocks-excess, draws-with, excess-measured, measured-wrong, none-draws, none-excess, returned-with, same-draws, told-with, view-draws, above-none}
 use Rattle.ruled_io.proofs.at_once.show_measured.Goals as goal
 
 abbrev no-width : Option ℕ

@@ -6,7 +6,7 @@ use Rattle.pg_layout.specs.Text.{Text}
 use Rattle.ruled_table.specs.Arranged.{chosen_rows, count_text}
 use Rattle.ruled_table.specs.View.{all_excess, all_fault, all_text, table_excess, table_fault, table_text}
 use Rattle.ruled_table.specs.declared.view.ViewFault.{ViewFault}
-use Rattle.ruled_io.proofs.AtOnce.{chosen-named, draws-behind, draws-handed, draws-with, returned-with, same-draws, told-with, view-draws, wrong-shown}
+use Rattle.ruled_io.proofs.Shows.{chosen-named, draws-behind, draws-handed, draws-with, returned-with, same-draws, told-with, view-draws, wrong-shown}
 use Rattle.ruled_io.proofs.at_once.show_rows.Goals as goal
 
 pub returns-in_err-chosen-clause-draws : goal.returns-in_err-chosen-clause-draws

@@ -6,7 +6,7 @@ use Rattle.pg_layout.specs.declared.position.Position.{Position}
 use Rattle.ruled_table.specs.RowLines.{HasAppended}
 use Rattle.ruled_table.specs.Layouts.{plan_in, with_colors, colored, layout_of, start_fault}
 use Rattle.ruled_table.specs.View.{whole_table}
-use Rattle.ruled_io.proofs.AtOnce.{view-draws, whole-draws}
+use Rattle.ruled_io.proofs.Shows.{view-draws, whole-draws}
 use Rattle.ruled_io.proofs.at_once.show_table.Goals as goal
 
 pub returns-in_err-table-clause-draws : goal.returns-in_err-table-clause-draws

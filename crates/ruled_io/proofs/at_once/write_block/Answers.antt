@@ -2,7 +2,7 @@ use Rattle.std.proofs.Common.{◌≡◌, ◌∙◌, ◌++◌, None, string_bytes
 use Rattle.csv.specs.Records.{fields_of}
 use Rattle.pg_layout.specs.Text.{Text}
 use Rattle.ruled_table.specs.View.{record_block, record_fault}
-use Rattle.ruled_io.proofs.AtOnce.{written-draws}
+use Rattle.ruled_io.proofs.Shows.{written-draws}
 use Rattle.ruled_io.proofs.at_once.write_block.Goals as goal
 
 pub returns-in-Ok-clause-draws : goal.returns-in-Ok-clause-draws

@@ -1,7 +1,7 @@
 use Rattle.std.proofs.Common.{◌≡◌, ◌≤◌, ◌+◌, ◌∷◌, [], List, drop, length, length-drop, map, ap, subst, arith}
 use Rattle.std.proofs.lemmas.List.{nil_from_length}
 use Rattle.csv.specs.Records.{Row, fields_of}
-use Rattle.ruled_io.proofs.AtOnce.{Blocked, blocked-begin, blocked-end, blocked-handed, blocked-on}
+use Rattle.ruled_io.proofs.Shows.{Blocked, blocked-begin, blocked-end, blocked-handed, blocked-on}
 use Rattle.ruled_io.proofs.Tables.{drop-next}
 use Rattle.ruled_io.proofs.at_once.write_blocks.Goals as goal
 

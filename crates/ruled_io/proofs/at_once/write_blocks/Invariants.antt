@@ -4,7 +4,7 @@ use Rattle.pg_layout.specs.Text.{Text}
 use Rattle.ruled_table.specs.View.{HasNames}
 use Rattle.ruled_table.specs.declared.options.Options.{Options}
 use Rattle.ruled_io.specs.Output.{failure_of}
-use Rattle.ruled_io.proofs.AtOnce.{Blocked}
+use Rattle.ruled_io.proofs.Shows.{Blocked}
 use Rattle.ruled_io.proofs.at_once.write_blocks.Given as goal
 
 abbrev pub invariant-loop-fields : goal.invariant-loop-fields

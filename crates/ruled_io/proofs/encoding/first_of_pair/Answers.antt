@@ -1,5 +1,5 @@
 use Rattle.std.proofs.Common.{sym, ◌∙◌}
-use Rattle.ruled_io.proofs.Encodings.{apart-shows, half-shows, lower-shows, pair-shows}
+use Rattle.ruled_io.proofs.Fronts.{apart-shows, half-shows, lower-shows, pair-shows}
 use Rattle.ruled_io.proofs.encoding.first_of_pair.Goals as goal
 
 pub returns-in_default : goal.returns-in_default

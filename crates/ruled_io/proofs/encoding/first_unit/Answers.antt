@@ -1,4 +1,4 @@
-use Rattle.ruled_io.proofs.Encodings.{in-range, part-shows, scalar-shows}
+use Rattle.ruled_io.proofs.Fronts.{in-range, part-shows, scalar-shows}
 use Rattle.ruled_io.proofs.encoding.first_unit.Goals as goal
 
 pub returns-in_default : goal.returns-in_default

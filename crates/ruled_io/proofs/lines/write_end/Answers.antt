@@ -1,7 +1,7 @@
 use Rattle.std.proofs.Common.{Err, Result, refl}
 use Rattle.ruled_io.specs.declared.fault.RunFault.{RunFault}
 use Rattle.ruled_io.specs.declared.fault.RunFault.TheVariants.{Input}
-use Rattle.ruled_io.proofs.AtOnce.{writes-only}
+use Rattle.ruled_io.proofs.Shows.{writes-only}
 use Rattle.ruled_io.proofs.Tables.{end-refused, end-written, end-wrong}
 use Rattle.ruled_io.proofs.lines.write_end.Goals as goal
 

@@ -1,5 +1,5 @@
 use Rattle.csv.specs.Records.{fields_of}
-use Rattle.ruled_io.proofs.AtOnce.{writes-only}
+use Rattle.ruled_io.proofs.Shows.{writes-only}
 use Rattle.ruled_io.proofs.Tables.{row-cut, row-refused, row-written}
 use Rattle.ruled_io.proofs.lines.write_row.Goals as goal
 

@@ -3,7 +3,7 @@ use Rattle.ruled_io.specs.Faults.{is_read, read_part}
 use Rattle.ruled_io.specs.declared.fault.RunFault.{RunFault}
 use Rattle.ruled_io.specs.Output.{fault_written}
 use Rattle.ruled_io.specs.Reading.{read_failure}
-use Rattle.ruled_io.proofs.AtOnce.{ending-remarked, read-noted}
+use Rattle.ruled_io.proofs.Shows.{ending-remarked, read-noted}
 use Rattle.ruled_io.proofs.Causes.{written-err}
 use Rattle.ruled_io.proofs.program.run.Goals as goal
 

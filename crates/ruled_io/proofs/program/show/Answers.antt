@@ -1,6 +1,6 @@
 use Rattle.std.proofs.Common.{◌≡◌, rules}
 use Rattle.ruled_io.specs.declared.request.Rows.TheVariants.{AtOnce, FromFirst}
-use Rattle.ruled_io.proofs.AtOnce.{once-caused, once-remarked, once-shown, rows-caused, rows-remarked, rows-shown}
+use Rattle.ruled_io.proofs.Shows.{once-caused, once-remarked, once-shown, rows-caused, rows-remarked, rows-shown}
 use Rattle.ruled_io.proofs.program.show.Goals as goal
 
 pub returns-in-AtOnce-clause-shown : goal.returns-in-AtOnce-clause-shown

@@ -15,8 +15,7 @@ use Rattle.ruled_io.specs.declared.fault.RunFault.TheVariants.{Input}
 use Rattle.ruled_io.specs.declared.program.Remarks.{Remarks}
 use Rattle.ruled_io.specs.Reading.{Stands, sound_rows, wrong_in}
 use Rattle.ruled_io.specs.Steps.{wrong_within}
-use Rattle.ruled_io.proofs.AtOnce.{noted-with, told-with}
-use Rattle.ruled_io.proofs.Shows.{above-none, first-rows, judged, no-rows, none-ends, open-rows, refused-ends, short-rows, some-rows, table-ends, wrong-ends}
+use Rattle.ruled_io.proofs.Shows.{noted-with, told-with, above-none, first-rows, judged, no-rows, none-ends, open-rows, refused-ends, short-rows, some-rows, table-ends, wrong-ends}
 use Rattle.ruled_io.proofs.stream.show_table.Goals as goal
 
 pub returns-then-is_empty-clause-ends : goal.returns-then-is_empty-clause-ends

@@ -3,7 +3,7 @@ use Rattle.std.specs.Result.{IsErrAnd}
 use Rattle.std.proofs.lemmas.Bool.{true≢false}
 use Rattle.ruled_io.specs.Faults.{is_failure, is_of_write}
 use Rattle.ruled_io.specs.declared.fault.RunFault.{RunFault}
-use Rattle.ruled_io.proofs.AtOnce.{write-handed}
+use Rattle.ruled_io.proofs.Shows.{write-handed}
 use Rattle.ruled_io.proofs.Tables.{write-fails}
 use Rattle.ruled_io.proofs.stream.show_to_end.Goals as goal
 

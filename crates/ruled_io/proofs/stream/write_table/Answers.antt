@@ -6,7 +6,7 @@ use Rattle.ruled_io.specs.declared.fault.RunFault.{RunFault}
 use Rattle.ruled_io.specs.declared.fault.RunFault.TheVariants.{Input}
 use Rattle.ruled_io.specs.declared.reader.Reading.{Reading}
 use Rattle.ruled_io.specs.Reading.{read_failure}
-use Rattle.ruled_io.proofs.AtOnce.{write-handed}
+use Rattle.ruled_io.proofs.Shows.{write-handed}
 use Rattle.ruled_io.proofs.Tables.{Runs, read-fails, runs-begin, runs-end, runs-fail, runs-on, runs-stop, runs-wrote, write-fails}
 use Rattle.ruled_io.proofs.stream.write_table.Goals as goal
 

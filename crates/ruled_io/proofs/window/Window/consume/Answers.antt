@@ -1,6 +1,6 @@
 use Rattle.std.proofs.Common.{ℕ, arith}
 use Rattle.std.proofs.lemmas.List.{length-take, length-drop}
-use Rattle.ruled_io.proofs.Decodings.{consumed}
+use Rattle.ruled_io.proofs.Fronts.{consumed}
 use Rattle.ruled_io.proofs.window.Window.consume.Goals as goal
 
 pub returns : goal.returns

@@ -1,6 +1,6 @@
 use Rattle.std.proofs.Common.{◌≤◌, List, ℕ, ◌++◌, length, take, ap, ◌∙◌, sym, arith}
 use Rattle.std.proofs.lemmas.Result.{err_from_is_err_and}
-use Rattle.ruled_io.proofs.Decodings.{grown, kept}
+use Rattle.ruled_io.proofs.Fronts.{grown, kept}
 use Rattle.ruled_io.proofs.window.Window.refill.Goals as goal
 
 pub returns-in_err-count-clause-err : goal.returns-in_err-count-clause-err
