@@ -7,7 +7,8 @@ ghost use Rattle.csv.specs.Records.{fields_of};
 ghost use Rattle.csv.specs.declared.parser.State.TheVariants as st;
 ghost use Rattle.ruled_csv.specs.declared.dialect.Dialect.{Dialect};
 ghost use Rattle.ruled_csv.specs.Faults.{Tells};
-ghost use Rattle.ruled_csv.specs.Inside.{Joins, begins_out, behind_fault, empty_hand, hand_after, hand_below, hand_cut, hand_of, is_act_behind, is_bare, is_behind, is_calm, is_open, last_row, open_fault};
+ghost use Rattle.ruled_csv.specs.Inside.{Joins, begins_out, behind_fault, empty_hand, hand_after, hand_below, hand_cut, hand_of};
+ghost use Rattle.ruled_csv.specs.Inside.{is_act_behind, is_bare, is_behind, is_calm, is_open, last_row, open_fault};
 ghost use Rattle.ruled_csv.specs.Inside.{opens, row_ended, state_behind, state_of, step_of};
 ghost use Rattle.ruled_csv.specs.Quotes.{is_closing, is_plain, is_quoted, config_of, separator};
 

@@ -17,7 +17,7 @@ use std::alloc::{AllocError, Global};
 pub(crate) enum Shown {
     /// The values of records.
     Values,
-    /// The same, where integers are floats without a fraction.
+    /// The values of records, with integers as floats without a fraction.
     Reals,
     /// The rowids.
     Rowids,
@@ -526,7 +526,7 @@ impl Definition {
         self.push_default(value)
     }
 
-    // The same with these parts.
+    // This definition with these parts.
     fn with_parts(
         self,
         alloc: Global,

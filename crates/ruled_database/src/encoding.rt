@@ -65,7 +65,7 @@ fn push_utf8(
     }
 }
 
-// The same values, with texts in UTF-8.
+// These values, with their texts in UTF-8.
 fn utf8_of(alloc: Global, is_high: bool, values: &Row) -> Result<Row, AllocError>
     ensures { IfOk result (λ it. it ≡ map (spec.value_of is_high) values.now) }
 {

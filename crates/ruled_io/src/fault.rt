@@ -210,7 +210,7 @@ impl fmt::Display for StreamedFault {
 }
 
 impl InputFault {
-    // The same fault, of the further input of this number.
+    // This fault, of the further input of this number.
     pub(crate) fn of_further(self, input: usize) -> InputFault
         ensures { result ≡ spec.of_further input self }
     {

@@ -93,7 +93,8 @@ impl Reading {
         front: &[u8],
         rows: &mut Vec<TextRow>,
     ) -> Result<Reading, InputFault>
-        ensures given { (rest : List ℕ) → IfOk result (GoesOn format (record { records = records; members = rules_of members.now }) (front.now ++ rest) (Some rest) [] (map fields_of rows.old.items) (map fields_of rows.new.items)) }
+        ensures given { (rest : List ℕ) → IfOk result (GoesOn format (record { records = records; members = rules_of members.now }) (front.now ++ rest) (Some rest) []
+            (map fields_of rows.old.items) (map fields_of rows.new.items)) }
         ensures memory { IfErr result (λ fault. fault ≡ InputFault.Memory) }
     {
         match format {

@@ -74,7 +74,7 @@ pub enum Place {
 }
 
 impl Place {
-    /// The same place; in the one value, with the line of this byte.
+    /// This place; in the one value, with the line of this byte.
     pub(crate) fn at(self, bytes: &[u8], offset: usize) -> Place
         ensures { but_near result ≡ but_near self }
     {

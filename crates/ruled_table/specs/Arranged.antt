@@ -1,5 +1,6 @@
 -- The rows of a table, of the rows that an input holds.
-use Rattle.std.specs.Prelude.{ℕ, ◌+◌, ◌-◌, ◌*◌, ◌==◌, ◌&&◌, nat_lt, max, List, [], ◌∷◌, ◌++◌, codes, drop, length, map, replicate, slice_index_or, string_bytes, take, Option, Some, None, is_none, if◌then◌else◌}
+use Rattle.std.specs.Prelude.{ℕ, ◌+◌, ◌-◌, ◌*◌, ◌==◌, ◌&&◌, nat_lt, max, List, [], ◌∷◌, ◌++◌, codes}
+use Rattle.std.specs.Prelude.{drop, length, map, replicate, slice_index_or, string_bytes, take, Option, Some, None, is_none, if◌then◌else◌}
 use Rattle.std.specs.Fmt.{decimal}
 use Rattle.std.specs.List.{count_by, range_with_len}
 use Rattle.std.specs.Option.{option_or}

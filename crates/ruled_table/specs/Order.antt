@@ -1,5 +1,6 @@
 -- The order of rows.
-use Rattle.std.specs.Prelude.{Option, Some, None, ◌^◌, ℕ, ◌+◌, ◌-◌, ◌*◌, ◌==◌, ◌&&◌, ◌||◌, not, min, Bool, true, false, List, [], ◌∷◌, ◌++◌, drop, take, length, map, fold, nat_eq, slice_index_or, ℤ, pos, negsuc, neg_ℤ, ◌+ℤ◌, ◌-ℤ◌, if◌then◌else◌}
+use Rattle.std.specs.Prelude.{Option, Some, None, ◌^◌, ℕ, ◌+◌, ◌-◌, ◌*◌, ◌==◌, ◌&&◌, ◌||◌, not, min, Bool, true, false, List}
+use Rattle.std.specs.Prelude.{[], ◌∷◌, ◌++◌, drop, take, length, map, fold, nat_eq, slice_index_or, ℤ, pos, negsuc, neg_ℤ, ◌+ℤ◌, ◌-ℤ◌, if◌then◌else◌}
 use Rattle.std.specs.List.{ends_with, filter, list_any, position, prefix_len, starts_with, suffix_len}
 use Rattle.std.specs.Cmp.Lexicographic.{slice_cmp}
 use Rattle.std.specs.Io.BufRead.{strip_last}
