@@ -5,6 +5,7 @@ use Rattle.std.specs.List.{list_all, slice_range, range_with_len}
 use Rattle.std.proofs.lemmas.Bool.{cases_lt, and_from, and_parts}
 use Rattle.std.proofs.lemmas.Bool.Decides.{nat_tests}
 use Rattle.std.proofs.lemmas.List.{length-map}
+use Rattle.std.proofs.lemmas.List.Folds.{list_all-append}
 use Rattle.std.proofs.lemmas.Simd.{bitmask_splat, none_from_empty_mask, length-chunk, mask_l-mod, tops_compared, zip2_splat_left}
 use Rattle.std.specs.Str.{IsAscii, IsUtf8, IsCharBoundary, encode_utf8_all}
 use Rattle.std.proofs.lemmas.Str.{chars-IsAscii, chars-append, chars-nil, IsUtf8-between, encodes-chars, scalars-chars, chars-encodes, encode_ascii}
@@ -22,7 +23,7 @@ use Rattle.unicode_width.specs.declared.kind.Kind.{Kind}
 use Rattle.unicode_width.proofs.KindLemmas.{kind_stepped}
 use Rattle.unicode_width.proofs.Rules.{is_simple_kind, is_simple, str_width-append_simple}
 use Rattle.unicode_width.proofs.Computing.{unicode_width}
-use Rattle.unicode_segmentation.proofs.TextLemmas.{slice_range_split}
+use Rattle.unicode_segmentation.proofs.TextLemmas.{length-slice_range, slice_range_split}
 use Rattle.pg_layout.specs.Text.{Text, width_of, greatest, is_plain_byte}
 use Rattle.pg_fit.specs.Inside.{adds_up}
 use Rattle.std.proofs.lemmas.Grind.{common_steps}
@@ -43,6 +44,7 @@ use Rattle.pg_layout.proofs.TextLines.{lines_of-one, width_of-plain, feed_place-
 use Rattle.pg_fit.specs.declared.wrapping.Breaking.{Breaking}
 use Rattle.pg_fit.specs.declared.wrapping.Breaking.TheVariants.{Anywhere, BetweenWords}
 use Rattle.pg_fit.specs.Wrapping.{Piece, before_words, words, indented, widest_character, least_line_width, least_width}
+use Rattle.pg_fit.proofs.FilledLines.{slice_range-all}
 
 -- ---- printable bytes, and characters that add their own widths to that of the text before them
 
@@ -422,6 +424,20 @@ printables-plain [] h = refl
 printables-plain (b ∷ bs) h =
     let parts = and_parts (is_printable b) (list_all is_printable bs) h in
     and_from (is_plain_byte b) (list_all is_plain_byte bs) (printable-plain b parts.0) (printables-plain bs parts.1)
+
+-- a part of a text of such bytes, which are as many as its columns
+printable-part : (text : Text) (i j : ℕ) → i ≤ j → j ≤ length text → list_all is_printable text ≡ true → list_all is_printable (slice_range text i j) ≡ true
+printable-part text i j order end h =
+    let n = length text in
+    let rest = slice_range text i n in
+    let whole : list_all is_printable (slice_range text 0 i ++ rest) ≡ true = ap (list_all is_printable) (sym (slice_range_split text 0 i n (omega arith) (omega arith)) ∙ slice_range-all text) ∙ h in
+    let behind = (and_parts (list_all is_printable (slice_range text 0 i)) (list_all is_printable rest) (sym (list_all-append is_printable (slice_range text 0 i) rest) ∙ whole)).1 in
+    let here : list_all is_printable (slice_range text i j ++ slice_range text j n) ≡ true = ap (list_all is_printable) (sym (slice_range_split text i j n order end)) ∙ behind in
+    (and_parts (list_all is_printable (slice_range text i j)) (list_all is_printable (slice_range text j n)) (sym (list_all-append is_printable (slice_range text i j) (slice_range text j n)) ∙ here)).0
+
+pub part-width : (text : Text) (i j : ℕ) → i ≤ j → j ≤ length text → list_all is_printable text ≡ true → j - i ≡ width_of (slice_range text i j)
+part-width text i j order end h =
+    sym (width_of-plain (slice_range text i j) (printables-plain (slice_range text i j) (printable-part text i j order end h)) ∙ length-slice_range text i j end)
 
 one-column : (b : ℕ) → is_printable b ≡ true → width_of (b ∷ []) ≡ 1
 one-column b h = width_of-plain (b ∷ []) (and_from (is_plain_byte b) true (printable-plain b h) refl)

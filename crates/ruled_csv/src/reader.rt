@@ -242,11 +242,7 @@ impl RowReader {
 /// another number of fields than row 0, unless rows may be ragged, one that isn't UTF-8, or one in
 /// which a quote isn't closed or is followed by text. The only other fault is out of memory, which
 /// no bytes need.
-pub fn read_rows(
-    alloc: Global,
-    dialect: Dialect,
-    bytes: &[u8],
-) -> Result<Vec<StringRecord>, RowsFault>
+pub fn read_rows(alloc: Global, dialect: Dialect, bytes: &[u8]) -> Result<Vec<TextRow>, RowsFault>
     ensures rows { IfOk result (λ rows. map fields_of rows.items ≡ rows_of dialect bytes.now) }
     ensures fault { Tells (rows_fault dialect bytes.now) result }
     ensures nothing { bytes.now ≡ [] → IsOk result }

@@ -30,7 +30,7 @@ fn word_len(count: usize, text: &[u8]) -> usize
 
 // The words of a text that begins with one, at most so many.
 #[tactic(auto, using(crate::proofs::Scans::words_enough, crate::proofs::Scans::words_all))]
-fn words_of(alloc: Global, most: usize, text: &[u8]) -> Result<ByteRecord, AllocError>
+fn words_of(alloc: Global, most: usize, text: &[u8]) -> Result<RowBuffer, AllocError>
     ensures { IfOk result (λ row. fields_of row ≡ spec.words_of most text.now) }
 {
     let mut row = RowBuffer::new(alloc);
@@ -49,7 +49,7 @@ fn words_of(alloc: Global, most: usize, text: &[u8]) -> Result<ByteRecord, Alloc
 
 // The line that these fields are the parts of, between tabs.
 #[tactic(auto, using(crate::proofs::Scans::line_all))]
-fn line_of(alloc: Global, fields: &ByteRecord) -> Result<Vec<u8>, AllocError>
+fn line_of(alloc: Global, fields: &RowBuffer) -> Result<Vec<u8>, AllocError>
     ensures { IfOk result (λ line. line.items ≡ line_of (fields_of fields.now)) }
 {
     let mut line = Vec::new(alloc);

@@ -10,7 +10,7 @@ use Rattle.ruled_database.specs.declared.fault.TableFault.{TableFault}
 use Rattle.ruled_database.specs.declared.fault.TableFault.TheVariants.{Damage, Default, Encoding, Memory}
 use Rattle.std.proofs.Math.Numerals.{add-one}
 use Rattle.std.proofs.lemmas.Bool.Decides.{nat_tests}
-use Rattle.std.specs.Prelude.{◌==◌, if◌then◌else◌, slice_index_or, IfErr}
+use Rattle.std.specs.Prelude.{◌==◌, ◌≢◌, if◌then◌else◌, slice_index_or, IfErr}
 use Rattle.std.specs.Result.{IsErrAnd}
 use Rattle.sqlite_format.specs.Bytes.{u32_at}
 use Rattle.sqlite_format.specs.Cell.{cell_child}

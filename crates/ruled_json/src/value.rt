@@ -154,11 +154,7 @@ fn shown_table(
 
 // The rows of a value, with these rules.
 #[tactic(auto, using(crate::proofs::Views::those_have_numbers))]
-fn rows_in(
-    alloc: Global,
-    rules: &MemberRules,
-    value: &Value<'_>,
-) -> Result<Vec<StringRecord>, JsonFault>
+fn rows_in(alloc: Global, rules: &MemberRules, value: &Value<'_>) -> Result<Vec<TextRow>, JsonFault>
     requires numbers { HasNumbers (value_view value.now) }
     ensures rows { IfOk result (λ rows. map fields_of rows.items ≡ table_of (string_bytes rules.now.null) (map (shown_record rules.now.is_flat) (records_in (value_view value.now)))) }
     ensures fault { Tells (value_fault (value_view value.now)) result }

@@ -9,7 +9,7 @@ use crate::columns::{field_at, first_meant};
 use crate::options::{Options, Sort};
 use crate::order::sorted;
 use crate::view::ViewFault;
-use csv::StringRecord;
+use ruled_row::TextRow;
 use std::alloc::{AllocError, Global};
 
 // The greater one of a number and of how many fields a row has.

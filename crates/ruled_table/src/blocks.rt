@@ -18,7 +18,6 @@ use crate::paired_rows::PairedRows;
 use crate::rows::{all_stand, made_record};
 use crate::table::{look_config, push_text};
 use crate::view::ViewFault;
-use csv::StringRecord;
 use pg_config::SpannedConfig;
 use ruled_row::TextRow;
 use std::alloc::{AllocError, Global};

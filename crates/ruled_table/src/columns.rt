@@ -12,7 +12,7 @@ ghost use Rattle.ruled_table.specs.declared.view.ViewFault.TheVariants.{Column};
 
 use crate::numbers::are_digits;
 use crate::view::ViewFault;
-use csv::StringRecord;
+use ruled_row::TextRow;
 use std::alloc::{AllocError, Global};
 use std::collections::{HashMap, HashSet};
 
@@ -28,7 +28,7 @@ pub(crate) fn told_of<T: Copy>(words: &[Option<T>], column: usize) -> Option<T>
 
 /// A field of a row, or an empty text if there is none.
 #[tactic(auto, using(crate::proofs::LentTexts::fields_found))]
-pub fn field_at(fields: &StringRecord, place: usize) -> &str
+pub fn field_at(fields: &TextRow, place: usize) -> &str
     ensures { result.now ≡ slice_index_or (fields_of fields.now) place [] }
 {
     match fields.get(place) {

@@ -12,9 +12,9 @@ use crate::columns::places_of;
 use crate::options::Options;
 use crate::rows::{ends, heads, tails};
 use crate::sides::body_of;
-use csv::StringRecord;
 use pg_stream::StreamFault;
 use pg_table::TableFault;
+use ruled_row::TextRow;
 use std::alloc::{AllocError, AllocFailed, Global};
 
 /// The rows that are shown of an input.

@@ -1,4 +1,4 @@
-use Rattle.pg_fit.proofs.PrintableLines.{part-width}
+use Rattle.pg_fit.proofs.LawsOfControls.{part-width}
 use Rattle.pg_fit.proofs.line.width_of_part.Goals as goal
 
 pub returns-then-printable : goal.returns-then-printable

@@ -3,7 +3,7 @@ use Rattle.std.specs.List.{list_all}
 use Rattle.csv.specs.Records.{Row}
 use Rattle.pg_layout.specs.Text.{Text, is_plain_byte}
 use Rattle.pg_fit.specs.Controls.{is_control}
-use Rattle.ruled_table.proofs.LentTexts.{fields-pass, plain-ascii, plain-fields-stand}
+use Rattle.ruled_table.proofs.LentTexts.{fields-pass, plain-fields-stand}
 use Rattle.ruled_table.proofs.rows.is_plain_record.Goals as goal
 
 pub returns-then-is_plain-clause-unchanged : goal.returns-then-is_plain-clause-unchanged
