@@ -83,8 +83,9 @@ module _ {X : Type 0} (selection : Option Selection) (bytes : List ℕ) where
   of_query sql.Damage (Err fault) none told = subst (LacksSelected selection bytes) (sym told) none
   of_query sql.NoRows (Err fault) none told = subst (LacksSelected selection bytes) (sym told) none
   of_query (sql.Columns error) (Err fault) none told = subst (LacksSelected selection bytes) (sym told) none
-  of_query sql.NoTable (Err fault) none told = subst (LacksSelected selection bytes) (sym told) none
+  of_query (sql.NoTable left) (Err fault) none told = subst (LacksSelected selection bytes) (sym told) none
   of_query (sql.Query (query.Refused error)) (Err fault) none told = subst (LacksSelected selection bytes) (sym told) none
+  of_query (sql.Query (query.Missing what left)) (Err fault) none told = subst (LacksSelected selection bytes) (sym told) none
   of_query (sql.Query (query.Limit steps)) (Err fault) none told = subst (LacksSelected selection bytes) (sym told) none
   of_query (sql.Query query.Change) (Err fault) none told = subst (LacksSelected selection bytes) (sym told) none
   of_query (sql.Query (query.Encoding row)) (Err fault) none told = subst (LacksSelected selection bytes) (sym told) none

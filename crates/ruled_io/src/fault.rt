@@ -310,25 +310,34 @@ fn tell_member<W: Write>(path: &[String], err: &mut W) -> io::Result<()> {
     writeln!(err, "'")
 }
 
-// The word of a query from which so many bytes are left, up to a blank.
+// The word of a query from which so many bytes are left, or its text up to a blank where no word begins.
 fn word_at(query: &str, left: usize) -> &str {
     let rest = query.get(query.len().saturating_sub(left)..).unwrap_or("");
-    rest.split_once(' ').map_or(rest, |(word, _)| word)
+    let end = rest
+        .as_bytes()
+        .iter()
+        .position(|byte| !byte.is_ascii_alphanumeric() && *byte != b'_' && *byte < 128);
+    match end {
+        Some(0) => rest.split_once(' ').map_or(rest, |(word, _)| word),
+        Some(end) => rest.get(..end).unwrap_or(rest),
+        None => rest,
+    }
 }
 
 // Writes the error line of a query that has no rows. An error is the writer's.
 fn tell_refusal<W: Write>(fault: SqlFault, query: &Query, err: &mut W) -> io::Result<()> {
     let text = query.text.as_str();
     let refusal = Refusal { fault, query: text };
-    if let SqlFault::NoTable = fault {
-        let name = Quoted(query.table.as_str());
-        return writeln!(err, "{refusal}: the table of the rows is {name}, or input");
-    }
     match refusal.left() {
-        Some(0) => writeln!(err, "{refusal} at the end of the query"),
-        Some(left) => writeln!(err, "{refusal}: {}", Quoted(word_at(text, left))),
-        None => writeln!(err, "{refusal}"),
+        Some(0) => write!(err, "{refusal} at the end of the query")?,
+        Some(left) => write!(err, "{refusal}: {}", Quoted(word_at(text, left)))?,
+        None => write!(err, "{refusal}")?,
     }
+    if let SqlFault::NoTable(_) = fault {
+        let name = Quoted(query.table.as_str());
+        return writeln!(err, "; the table of the rows is {name}, or input");
+    }
+    writeln!(err)
 }
 
 // The words for a log that isn't read.

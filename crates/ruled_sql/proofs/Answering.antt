@@ -29,7 +29,7 @@ use Rattle.sqlite.specs.Steps.{Outlines, column_names}
 use Rattle.ruled_database.specs.Tables.{shown_text}
 use Rattle.ruled_sql.specs.Answers.{Changes, IsAnswer, IsChange, IsFaultOfRow, IsHeld, Makes, Means, Shows, image_of, shown_rows}
 use Rattle.ruled_sql.specs.declared.fault.QueryFault.{QueryFault}
-use Rattle.ruled_sql.specs.declared.fault.QueryFault.TheVariants.{Change, Encoding, Limit, Memory, Refused}
+use Rattle.ruled_sql.specs.declared.fault.QueryFault.TheVariants.{Change, Encoding, Limit, Memory, Missing, Refused}
 
 -- ---- databases
 
@@ -168,6 +168,7 @@ pub texts-lack : {X : Type 0} (row : ℕ) (null_text : List ℕ) → IsUtf8 null
     → IfErr result (IsFaultOfRow row (map (shown_text []) values))
 texts-lack row null_text is values (Ok x) lacks = tt
 texts-lack row null_text is values (Err (Refused error)) lacks = lacks
+texts-lack row null_text is values (Err (Missing what left)) lacks = lacks
 texts-lack row null_text is values (Err (Limit most)) lacks = lacks
 texts-lack row null_text is values (Err Change) lacks = lacks
 texts-lack row null_text is values (Err (Encoding at)) lacks = (lacks.0, λ all. lacks.1 (all-texts null_text is values all))

@@ -11,10 +11,10 @@ use Rattle.sqlite.specs.Held.{Held, state}
 use Rattle.sqlite.specs.Steps.{over_memory}
 use Rattle.ruled_sql.specs.Answers.{IsAnswer, LacksAnswer, LacksText, is_memory, shown_rows}
 use Rattle.ruled_sql.specs.declared.fault.QueryFault.{QueryFault}
-use Rattle.ruled_sql.specs.declared.fault.QueryFault.TheVariants.{Change, Encoding, Limit, Memory, Refused}
+use Rattle.ruled_sql.specs.declared.fault.QueryFault.TheVariants.{Change, Encoding, Limit, Memory, Missing, Refused}
 use Rattle.ruled_sql.specs.declared.fault.SqlFault.{SqlFault}
 use Rattle.ruled_sql.specs.declared.fault.SqlFault.TheVariants as sql
-use Rattle.ruled_sql.specs.Filled.{AreCut, AreRun, IsBlank, IsCalled, IsCalledBy, IsFaultOfStep, IsFilled, IsRun, IsStuck, IsUnfilled, LacksQueried, LacksTable, Step, columns_text, filling, insertions, names_no_table, steps, values_of}
+use Rattle.ruled_sql.specs.Filled.{AreCut, AreRun, IsBlank, IsCalled, IsCalledBy, IsFaultOfStep, IsFilled, IsRun, IsStuck, IsUnfilled, LacksQueried, LacksTable, Step, columns_text, filling, insertions, left_by, names_no_table, steps, values_of}
 use Rattle.sqlite.specs.declared.error.Error.{Error}
 
 -- ---- fields
@@ -122,7 +122,7 @@ unfilled all blank is error sql.Database of cut = absurd of
 unfilled all blank is error sql.Damage of cut = absurd of
 unfilled all blank is error sql.NoRows of cut = absurd of
 unfilled all blank is error (sql.Columns found) of cut = (blank, is, subst (λ (it : Error). AreCut all blank it) (sym of.0) (cut of.1))
-unfilled all blank is error sql.NoTable of cut = absurd of
+unfilled all blank is error (sql.NoTable left) of cut = absurd of
 unfilled all blank is error (sql.Query found) of cut = absurd of
 unfilled all blank is error sql.Memory of cut = tt
 
@@ -132,7 +132,7 @@ unmade create others sql.Database lacks = absurd lacks
 unmade create others sql.Damage lacks = absurd lacks
 unmade create others sql.NoRows lacks = absurd lacks
 unmade create others (sql.Columns error) lacks = (lacks.0, lacks.1, cut-front (create ∷ []) others lacks.0 error lacks.2)
-unmade create others sql.NoTable lacks = absurd lacks
+unmade create others (sql.NoTable left) lacks = absurd lacks
 unmade create others (sql.Query found) lacks = absurd lacks
 unmade create others sql.Memory lacks = tt
 
@@ -154,7 +154,7 @@ module _ (name called : List ℕ) (table : List (List (List ℕ))) (query : List
   lacks-table all is sql.Damage lacks = absurd lacks
   lacks-table all is sql.NoRows lacks = absurd lacks
   lacks-table all is (sql.Columns error) lacks = (called, either, subst (λ (some : List Step). IsUnfilled some error) is lacks)
-  lacks-table all is sql.NoTable lacks = absurd lacks
+  lacks-table all is (sql.NoTable left) lacks = absurd lacks
   lacks-table all is (sql.Query found) lacks = absurd lacks
   lacks-table all is sql.Memory lacks = tt
 
@@ -162,18 +162,19 @@ module _ (name called : List ℕ) (table : List (List (List ℕ))) (query : List
   no-rows all is fault lacks none = subst (λ (it : SqlFault). LacksTable all it) none lacks
 
   module _ (connection : Held MemStore) (filled : IsFilled (steps called table) connection) where
-    lacks-by : (fault : QueryFault) → LacksAnswer query most (state over_memory connection).now fault → (no_table : Bool) → names_no_table fault ≡ no_table
-        → LacksQueried name table query most (if no_table then sql.NoTable else sql.Query fault)
+    lacks-by : (fault : QueryFault) → LacksAnswer name query most (state over_memory connection).now fault → (no_table : Bool) → names_no_table fault ≡ no_table
+        → LacksQueried name table query most (if no_table then sql.NoTable (left_by fault) else sql.Query fault)
     lacks-by fault lacks false is = (is, (called, either, connection, filled, lacks))
-    lacks-by fault lacks true is = (called, either, connection, filled, (fault, is, lacks))
+    lacks-by fault lacks true is = (called, either, connection, filled, (fault, is, refl, lacks))
 
-    pub lacks-answer : (fault : QueryFault) → LacksAnswer query most (state over_memory connection).now fault → LacksQueried name table query most (if names_no_table fault then sql.NoTable else sql.Query fault)
+    pub lacks-answer : (fault : QueryFault) → LacksAnswer name query most (state over_memory connection).now fault → LacksQueried name table query most (if names_no_table fault then sql.NoTable (left_by fault) else sql.Query fault)
     lacks-answer fault lacks = lacks-by fault lacks (names_no_table fault) refl
 
     -- an answer that isn't UTF-8
     pub lacks-text : (names : List (List ℕ)) (answer : List Row) → IsAnswer query most (state over_memory connection).now names answer → (fault : QueryFault) → LacksText (shown_rows [] names answer) fault
         → LacksQueried name table query most (sql.Query fault)
     lacks-text names answer is (Refused error) lacks = absurd lacks
+    lacks-text names answer is (Missing what left) lacks = absurd lacks
     lacks-text names answer is (Limit steps) lacks = absurd lacks
     lacks-text names answer is Change lacks = absurd lacks
     lacks-text names answer is (Encoding row) lacks = (refl, (called, either, connection, filled, (names, answer, is, lacks)))

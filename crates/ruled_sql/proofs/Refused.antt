@@ -26,7 +26,9 @@ use Rattle.sqlite.specs.Outline.{Outline}
 use Rattle.sqlite.specs.Steps.{Outlines}
 use Rattle.sqlite_resolve.specs.declared.error.CompileError.{CompileError}
 use Rattle.sqlite_resolve.specs.declared.error.CompileError.TheVariants as compile
+use Rattle.sqlite_schema.specs.declared.schema.Schema.{Schema}
 use Rattle.ruled_sql.specs.Filled.{is_no_table}
+use Rattle.ruled_sql.specs.Lacks.{missing_by, stray_in}
 use Rattle.sqlite.specs.Files.{FailsToOpenFiles, HoldsDatabase, IsCleanLeft, tally_left}
 use Rattle.sqlite.specs.Opening.{FailsAs}
 use Rattle.sqlite.specs.State.{FailsToQuery, FailsToShow, HasCause, IsMisplaced, IsNoStatement, IsNotRun, IsStatement, MayChange, RunsCommand, State, mode_of, store_error, text_of}
@@ -35,9 +37,9 @@ use Rattle.sqlite.specs.declared.error.Error.TheVariants.{InvalidParameterCount,
 use Rattle.sqlite.specs.declared.error.ErrorCode.TheVariants as code
 use Rattle.sqlite.specs.declared.file.Leftover.{Leftover}
 use Rattle.sqlite.specs.declared.file.Leftover.TheVariants as left
-use Rattle.ruled_sql.specs.Answers.{Fails, IsAnswer, IsFaultOf, IsFaultOfFile, IsFaultOfRow, IsHeld, IsOfTransaction, IsRefused, IsUnopened, LacksAnswer, LacksRows, LacksText, is_memory, shown_rows}
+use Rattle.ruled_sql.specs.Answers.{Fails, IsAnswer, IsFaultOf, IsFaultOfFile, IsFaultOfRow, IsFaultOfText, IsHeld, IsNoQuery, IsOfTransaction, IsRefused, IsUnopened, LacksAnswer, LacksRows, LacksText, is_memory, shown_rows}
 use Rattle.ruled_sql.specs.declared.fault.QueryFault.{QueryFault}
-use Rattle.ruled_sql.specs.declared.fault.QueryFault.TheVariants.{Change, Encoding, Limit, Memory, Refused}
+use Rattle.ruled_sql.specs.declared.fault.QueryFault.TheVariants.{Change, Encoding, Limit, Memory, Missing, Refused}
 use Rattle.ruled_sql.specs.declared.fault.SqlFault.{SqlFault}
 use Rattle.ruled_sql.specs.declared.fault.SqlFault.TheVariants as sql
 
@@ -114,7 +116,7 @@ module _ {D : Type 0} {g : Ghosts D} (clean : (file : D) → g.is_clean file ≡
       λ trees held. not_sound (named old new) _ _ _ _ (disk-damages (new.caught == old.caught) (new.refused == old.refused) passed) (refused-with _ says.0) (inl (trees, unheld trees held))
   unopened before after now sql.NoRows was left is says = absurd says
   unopened before after now (sql.Columns found) was left is says = absurd says
-  unopened before after now sql.NoTable was left is says = absurd says
+  unopened before after now (sql.NoTable word) was left is says = absurd says
   unopened before after now (sql.Query found) was left is says = absurd says
   unopened before after now sql.Memory was left is says = tt
 
@@ -124,58 +126,68 @@ unopened-lacks bytes query steps sql.Database h = h
 unopened-lacks bytes query steps sql.Damage h = h
 unopened-lacks bytes query steps sql.NoRows h = h
 unopened-lacks bytes query steps (sql.Columns found) h = h
-unopened-lacks bytes query steps sql.NoTable h = h
+unopened-lacks bytes query steps (sql.NoTable word) h = h
 unopened-lacks bytes query steps (sql.Query found) h = absurd h
 unopened-lacks bytes query steps sql.Memory h = h
 
 -- ---- queries
 
 -- an error that isn't of memory
-told : (query : List ℕ) (steps : ℕ) (db : Database) (error : Error) (fault : QueryFault) → IsFaultOf steps error fault → IsRefused query steps db error → LacksAnswer query steps db fault
-told query steps db error (Refused found) is h = subst (λ (it : Error). IsRefused query steps db it) (sym is.0) h
-told query steps db error (Limit most) is h = (is.0, subst (λ (it : Error). IsRefused query steps db it) is.1 h)
-told query steps db error Change is h = absurd is
-told query steps db error (Encoding row) is h = absurd is
-told query steps db error Memory is h = tt
+told : (table query : List ℕ) (steps : ℕ) (db : Database) (error : Error) (fault : QueryFault) → IsFaultOf steps error fault → IsRefused table query steps db error → LacksAnswer table query steps db fault
+told table query steps db error (Refused found) is h = subst (λ (it : Error). IsRefused table query steps db it) (sym is.0) h
+told table query steps db error (Limit most) is h = (is.0, subst (λ (it : Error). IsRefused table query steps db it) is.1 h)
+told table query steps db error (Missing what word) is h = absurd is
+told table query steps db error Change is h = absurd is
+told table query steps db error (Encoding row) is h = absurd is
+told table query steps db error Memory is h = tt
 
 -- one that is
-of-memory : (query : List ℕ) (steps : ℕ) (db : Database) (error : Error) (fault : QueryFault) → IsFaultOf steps error fault → is_memory error ≡ true → LacksAnswer query steps db fault
-of-memory query steps db error (Refused found) is memory = absurd (true≢false (sym memory ∙ is.1))
-of-memory query steps db error (Limit most) is memory = absurd (true≢false (sym memory ∙ ap is_memory is.1))
-of-memory query steps db error Change is memory = absurd is
-of-memory query steps db error (Encoding row) is memory = absurd is
-of-memory query steps db error Memory is memory = tt
+of-memory : (table query : List ℕ) (steps : ℕ) (db : Database) (error : Error) (fault : QueryFault) → IsFaultOf steps error fault → is_memory error ≡ true → LacksAnswer table query steps db fault
+of-memory table query steps db error (Refused found) is memory = absurd (true≢false (sym memory ∙ is.1))
+of-memory table query steps db error (Limit most) is memory = absurd (true≢false (sym memory ∙ ap is_memory is.1))
+of-memory table query steps db error (Missing what word) is memory = absurd is
+of-memory table query steps db error Change is memory = absurd is
+of-memory table query steps db error (Encoding row) is memory = absurd is
+of-memory table query steps db error Memory is memory = tt
 
 of-transaction : (s : State) (command : Command) (error : Error) → IsMisplaced s command error → IsOfTransaction command error
 of-transaction s command error (inl (says, inl begin)) = inl (says, inl begin.0)
 of-transaction s command error (inl (says, inr end)) = inl (says, inr end.0)
 of-transaction s command error (inr h) = inr (h.0, h.1, h.2)
 
-module _ (query : List ℕ) (steps : ℕ) (old new : State) (error : Error) (fault : QueryFault) (is : IsFaultOf steps error fault) where
+module _ (table query : List ℕ) (steps : ℕ) (old new : State) (error : Error) (fault : QueryFault) (is : IsFaultOf steps error fault) where
   abbrev Lacks : Type 0
-  Lacks = LacksAnswer query steps old.now fault
+  Lacks = LacksAnswer table query steps old.now fault
 
   -- the store fails
   by-cause : (TooBig : Type 0) → (TooBig → error ≡ SqliteFailure code.TooBig → Lacks) → (cause : StoreError) → error ≡ store_error cause → HasCause old new TooBig cause → Lacks
-  by-cause TooBig big OutOfMemory same h = of-memory query steps old.now error fault is (ap is_memory same)
-  by-cause TooBig big Io same h = of-memory query steps old.now error fault is (ap is_memory same)
-  by-cause TooBig big Corrupt same h = of-memory query steps old.now error fault is (ap is_memory same)
-  by-cause TooBig big Full same h = of-memory query steps old.now error fault is (ap is_memory same)
-  by-cause TooBig big Broken same h = of-memory query steps old.now error fault is (ap is_memory same)
+  by-cause TooBig big OutOfMemory same h = of-memory table query steps old.now error fault is (ap is_memory same)
+  by-cause TooBig big Io same h = of-memory table query steps old.now error fault is (ap is_memory same)
+  by-cause TooBig big Corrupt same h = of-memory table query steps old.now error fault is (ap is_memory same)
+  by-cause TooBig big Full same h = of-memory table query steps old.now error fault is (ap is_memory same)
+  by-cause TooBig big Broken same h = of-memory table query steps old.now error fault is (ap is_memory same)
   by-cause TooBig big Unstorable same h = big h same
 
+  -- no name that is missing is found
+  abbrev NamesNone : Type 0
+  NamesNone = (found : CompileError) → understood old.now.schema query ≡ Err found → error ≡ SqlInputError found → new.now ≡ old.now → stray_in old.now.schema table query (missing_by found) ≡ None
+
+  no-query : NamesNone → new.now ≡ old.now → IsNoStatement old query [] error → IsNoQuery table query old.now error
+  no-query none same (inl h) = inl (h.0, h.1, none h.0 h.1 h.2 same, h.2)
+  no-query none same (inr h) = inr h
+
   -- the text is no statement
-  pub unread : IsNotRun old new query [] error → Lacks
+  pub unread : NamesNone → IsNotRun old new query [] error → Lacks
   unfolding IsNotRun
-  unread (inl h) = told query steps old.now error fault is (inl h.0)
-  unread (inr h) = by-cause ⊥ (λ none same. absurd none) h.0 h.1 h.2
+  unread none (inl h) = told table query steps old.now error fault is (inl (no-query none h.1.0.now_is h.0))
+  unread none (inr h) = by-cause ⊥ (λ none same. absurd none) h.0 h.1 h.2
 
   module _ (limited : old.step_limit ≡ Some steps) (c : Compiled) (it : IsStatement old query [] c) where
     abbrev params : Row
     params = timed [] c.formats it.now
 
     fails : Fails query steps old.now c params error c.returning → Lacks
-    fails h = told query steps old.now error fault is (inr (c, record { is = it.is; whole = it.whole; bare = sym it.given }, it.now, h))
+    fails h = told table query steps old.now error fault is (inr (c, record { is = it.is; whole = it.whole; bare = sym it.given }, it.now, h))
 
     fails-as : (returning : Option Returning) → c.returning ≡ returning → Fails query steps old.now c params error returning → Lacks
     fails-as returning same h = fails (subst (λ (r : Option Returning). Fails query steps old.now c params error r) (sym same) h)
@@ -196,16 +208,17 @@ module _ (query : List ℕ) (steps : ℕ) (old new : State) (error : Error) (fau
     unshown None same h = fails-as None same (h.0, h.1, subst (λ (most : Option ℕ). RefusesToRead most c.command h.0 params error) limited h.2)
     unshown (Some what) same h = runs-not what same h
 
-  pub unanswered : old.step_limit ≡ Some steps → FailsToQuery query [] old new error → Lacks
+  pub unanswered : old.step_limit ≡ Some steps → ((found : CompileError) → understood old.now.schema query ≡ Err found → ⊥) → FailsToQuery query [] old new error → Lacks
   unfolding FailsToQuery
-  unanswered limited (inl h) = unread h
-  unanswered limited (inr h) = unshown limited h.0 h.1 h.0.returning refl h.2
+  unanswered limited known (inl h) = unread (λ found is same now. absurd (known found is)) h
+  unanswered limited known (inr h) = unshown limited h.0 h.1 h.0.returning refl h.2
 
 -- an answer that isn't UTF-8
 pub unshown-lacks : (bytes query : List ℕ) (steps : ℕ) (db : Database) → IsHeld bytes db → (names : List (List ℕ)) (answer : List Row) → IsAnswer query steps db names answer → (fault : QueryFault) → LacksText (shown_rows [] names answer) fault
     → LacksRows bytes query steps (sql.Query fault)
 unshown-lacks bytes query steps db held names answer is (Refused error) lacks = absurd lacks
 unshown-lacks bytes query steps db held names answer is (Limit most) lacks = absurd lacks
+unshown-lacks bytes query steps db held names answer is (Missing what word) lacks = absurd lacks
 unshown-lacks bytes query steps db held names answer is Change lacks = absurd lacks
 unshown-lacks bytes query steps db held names answer is (Encoding row) lacks = (db, held, (names, answer, is, lacks))
 unshown-lacks bytes query steps db held names answer is Memory lacks = (db, held, tt)
@@ -214,6 +227,7 @@ unshown-lacks bytes query steps db held names answer is Memory lacks = (db, held
 pub row-lacks : (rows : List (List (List ℕ))) (row : ℕ) (texts : List (List ℕ)) → texts ≡ slice_index_or rows row [] → (fault : QueryFault) → IsFaultOfRow row texts fault → LacksText rows fault
 row-lacks rows row texts is (Refused error) lacks = absurd lacks
 row-lacks rows row texts is (Limit most) lacks = absurd lacks
+row-lacks rows row texts is (Missing what word) lacks = absurd lacks
 row-lacks rows row texts is Change lacks = absurd lacks
 row-lacks rows row texts is (Encoding at) lacks = λ all. lacks.1 (subst AllText (ap (λ (n : ℕ). slice_index_or rows n []) lacks.0 ∙ sym is) all)
 row-lacks rows row texts is Memory lacks = tt
@@ -245,9 +259,9 @@ sound-cause old new error Broken same h sound = true≢false (sym (ap is_memory 
 sound-cause old new error Unstorable same h sound = h
 
 -- the text isn't understood
-without : (old new : State) (query : List ℕ) (error : Error) → IsNotRun old new query [] error → is_memory error ≡ false → IsNoStatement old query [] error
+without : (old new : State) (query : List ℕ) (error : Error) → IsNotRun old new query [] error → is_memory error ≡ false → IsNoStatement old query [] error × (new.now ≡ old.now)
 unfolding IsNotRun
-without old new query error (inl h) sound = h.0
+without old new query error (inl h) sound = (h.0, h.1.0.now_is)
 without old new query error (inr h) sound = absurd (sound-cause old new error h.0 h.1 h.2 sound)
 
 -- a table is missing if that is the error
@@ -276,8 +290,44 @@ lacking s query error (inl h) = ap is_no_table h.2 ∙ sym (ap misses_table h.1 
 lacking s query error (inr h) = other _ _ _ _ _ error h.2 ∙ sym (ap misses_table h.1)
 
 pub lacks-table : (old new : State) (query : List ℕ) (error : Error) → IsNotRun old new query [] error → is_memory error ≡ false → is_no_table error ≡ misses_table (understood old.now.schema query)
-lacks-table old new query error h sound = lacking old query error (without old new query error h sound)
+lacks-table old new query error h sound = lacking old query error (without old new query error h sound).0
 
 pub has-tables : (known : Result Compiled CompileError) (it : Outline) → Outlines known it → false ≡ misses_table known
 has-tables (Ok c) it outlines = refl
 has-tables (Err error) it outlines = absurd outlines
+
+-- ---- names that are missing
+
+-- a text that is understood, and an error of another
+abbrev is_err : Result Compiled CompileError → Bool
+is_err (Ok c) = false
+is_err (Err error) = true
+
+pub understands : (known : Result Compiled CompileError) (it : Outline) → Outlines known it → (found : CompileError) → known ≡ Err found → ⊥
+understands (Ok c) it outlines found is = true≢false (sym (ap is_err is))
+understands (Err error) it outlines found is = absurd outlines
+
+abbrev is_input : Error → Bool
+is_input (SqlInputError fault) = true
+is_input _ = false
+
+not-input : (A B C : Type 0) (n m : ℕ) (error : Error) → (A × (error ≡ MultipleStatement)) ⊎ ((B × (error ≡ InvalidParameterCount n m)) ⊎ (C × (error ≡ SqliteFailure code.NoClock))) → is_input error ≡ false
+not-input A B C n m error (inl h) = ap is_input h.1
+not-input A B C n m error (inr (inl h)) = ap is_input h.1
+not-input A B C n m error (inr (inr h)) = ap is_input h.1
+
+input : (s : State) (query : List ℕ) (error : Error) (found : CompileError) → IsNoStatement s query [] error → error ≡ SqlInputError found → understood s.now.schema query ≡ Err found
+input s query error found (inl h) is = let same : h.0 ≡ found = let says = h.2 in cc in h.1 ∙ ap (λ (it : CompileError). Err it) same
+input s query error found (inr h) is = absurd (true≢false (sym (ap is_input is) ∙ not-input _ _ _ _ _ error h.2))
+
+module _ (table query : List ℕ) (steps : ℕ) (old new : State) (error : Error) (fault : QueryFault) (schema : Schema) (same : schema ≡ new.now.schema) where
+  stays : new.now ≡ old.now → schema ≡ old.now.schema
+  stays now = same ∙ ap (λ (db : Database). db.schema) now
+
+  pub unread-text : IsFaultOfText schema table query steps error fault → IsNotRun old new query [] error → LacksAnswer table query steps old.now fault
+  unread-text (inl (found, is, left, says, stray)) h =
+      let none = without old new query error h (ap is_memory is) in
+      subst (λ (it : QueryFault). LacksAnswer table query steps old.now it) (sym says)
+      (found, input old query error found none.0 is, refl, subst (λ (it : Schema). stray_in it table query (missing_by found) ≡ Some left) (stays none.1) stray)
+  unread-text (inr (is, none)) h =
+      unread table query steps old new error fault is (λ found err says now. subst (λ (it : Schema). stray_in it table query (missing_by found) ≡ None) (stays now) (none found says)) h

@@ -7,6 +7,7 @@ use Rattle.sqlite_wal.specs.Recovery.{Image}
 use Rattle.sqlite_schema.specs.declared.command.Command.{Command}
 use Rattle.sqlite_schema.specs.declared.command.Command.TheVariants.{Begin, Commit, Release, Rollback, RollbackTo}
 use Rattle.sqlite_schema.specs.declared.command.Returning.{Returning}
+use Rattle.sqlite_schema.specs.declared.schema.Schema.{Schema}
 use Rattle.sqlite_schema.specs.declared.schema.Keys.TheVariants.{Enforced}
 use Rattle.sqlite_resolve.specs.declared.compiled.Compiled.{Compiled}
 use Rattle.sqlite_resolve.specs.declared.error.CompileError.{CompileError}
@@ -21,8 +22,10 @@ use Rattle.sqlite.specs.Listing.{IsSourceOf, reads_listing, understood}
 use Rattle.sqlite.specs.State.{text_of}
 use Rattle.sqlite.specs.Steps.{column_names}
 use Rattle.ruled_database.specs.Tables.{shown_text}
+use Rattle.ruled_sql.specs.Lacks.{missing_by, stray_in}
+use Rattle.ruled_sql.specs.declared.lack.Meaning.{Meaning}
 use Rattle.ruled_sql.specs.declared.fault.QueryFault.{QueryFault}
-use Rattle.ruled_sql.specs.declared.fault.QueryFault.TheVariants.{Change, Encoding, Limit, Memory, Refused}
+use Rattle.ruled_sql.specs.declared.fault.QueryFault.TheVariants.{Change, Encoding, Limit, Memory, Missing, Refused}
 use Rattle.ruled_sql.specs.declared.fault.SqlFault.{SqlFault}
 use Rattle.ruled_sql.specs.declared.fault.SqlFault.TheVariants as sql
 
@@ -87,10 +90,14 @@ pub record AreAnswered (bytes query : List ℕ) (steps : ℕ) (null_text : List 
 
 -- ---- why there is no answer
 
--- the text isn't one statement without parameters that doesn't read the time
-abbrev pub IsNoQuery : List ℕ → Database → Error → Type 0
-IsNoQuery query db error =
-    ((fault : CompileError) × (understood db.schema query ≡ Err fault) × (error ≡ SqlInputError fault))
+-- the text isn't understood, as it names what the database lacks, by the word from which so many bytes of it are left
+abbrev pub IsMissing : List ℕ → List ℕ → Database → Meaning → ℕ → Type 0
+IsMissing table query db what left = (fault : CompileError) × (understood db.schema query ≡ Err fault) × (what ≡ missing_by fault) × (stray_in db.schema table query what ≡ Some left)
+
+-- the text isn't one statement without parameters that doesn't read the time, or a missing name isn't found
+abbrev pub IsNoQuery : List ℕ → List ℕ → Database → Error → Type 0
+IsNoQuery table query db error =
+    ((fault : CompileError) × (understood db.schema query ≡ Err fault) × (stray_in db.schema table query (missing_by fault) ≡ None) × (error ≡ SqlInputError fault))
     ⊎ ((c : Compiled) × (understood db.schema query ≡ Ok c)
     × (((¬ (length query ≤ c.tail)) × (error ≡ MultipleStatement)) ⊎ (((0 ≢ length c.names) × (error ≡ InvalidParameterCount 0 (length c.names))) ⊎ ((c.formats ≢ []) × (error ≡ SqliteFailure code.NoClock)))))
 
@@ -112,8 +119,8 @@ module _ (query : List ℕ) (steps : ℕ) (db : Database) (c : Compiled) (params
   Changes = (tally : Tally) × (after : Database) × Makes query steps db c params (Ok (tally, after)) × (0 < unwrap_or tally.rows 0)
 
 -- the query isn't understood, or fails, with this error
-abbrev pub IsRefused : List ℕ → ℕ → Database → Error → Type 0
-IsRefused query steps db error = IsNoQuery query db error ⊎ ((c : Compiled) × Means query db c × (time : ℕ) × Fails query steps db c (timed [] c.formats time) error c.returning)
+abbrev pub IsRefused : List ℕ → List ℕ → ℕ → Database → Error → Type 0
+IsRefused table query steps db error = IsNoQuery table query db error ⊎ ((c : Compiled) × Means query db c × (time : ℕ) × Fails query steps db c (timed [] c.formats time) error c.returning)
 
 abbrev pub IsChange : List ℕ → ℕ → Database → Type 0
 IsChange query steps db = (c : Compiled) × Means query db c × (time : ℕ) × Changes query steps db c (timed [] c.formats time)
@@ -130,13 +137,14 @@ IsFaultOfRow row texts (Encoding at) = (at ≡ row) × ¬ AllText texts
 IsFaultOfRow row texts Memory = ⊤
 IsFaultOfRow row texts fault = ⊥
 
--- why a query has no answer, unless memory was refused
-abbrev pub LacksAnswer : List ℕ → ℕ → Database → QueryFault → Type 0
-LacksAnswer query steps db (Refused error) = IsRefused query steps db error
-LacksAnswer query steps db (Limit most) = (most ≡ steps) × IsRefused query steps db (SqliteFailure code.OperationInterrupted)
-LacksAnswer query steps db Change = IsChange query steps db
-LacksAnswer query steps db (Encoding row) = (names : List (List ℕ)) × (answer : List Row) × IsAnswer query steps db names answer × LacksText (shown_rows [] names answer) (Encoding row)
-LacksAnswer query steps db Memory = ⊤
+-- why a query has no answer, unless memory was refused; its table may have another name
+abbrev pub LacksAnswer : List ℕ → List ℕ → ℕ → Database → QueryFault → Type 0
+LacksAnswer table query steps db (Refused error) = IsRefused table query steps db error
+LacksAnswer table query steps db (Missing what left) = IsMissing table query db what left
+LacksAnswer table query steps db (Limit most) = (most ≡ steps) × IsRefused table query steps db (SqliteFailure code.OperationInterrupted)
+LacksAnswer table query steps db Change = IsChange query steps db
+LacksAnswer table query steps db (Encoding row) = (names : List (List ℕ)) × (answer : List Row) × IsAnswer query steps db names answer × LacksText (shown_rows [] names answer) (Encoding row)
+LacksAnswer table query steps db Memory = ⊤
 
 -- why bytes aren't opened as a database, unless memory was refused
 abbrev pub IsUnopened : List ℕ → SqlFault → Type 0
@@ -147,7 +155,7 @@ IsUnopened bytes fault = ⊥
 
 -- why a query has no answer of them
 abbrev pub LacksRows : List ℕ → List ℕ → ℕ → SqlFault → Type 0
-LacksRows bytes query steps (sql.Query fault) = (db : Database) × IsHeld bytes db × LacksAnswer query steps db fault
+LacksRows bytes query steps (sql.Query fault) = (db : Database) × IsHeld bytes db × LacksAnswer [] query steps db fault
 LacksRows bytes query steps fault = IsUnopened bytes fault
 
 -- ---- errors of `sqlite`
@@ -174,6 +182,12 @@ IsFaultOf steps error (Refused found) = (found ≡ error) × (is_memory error �
 IsFaultOf steps error (Limit most) = (most ≡ steps) × (error ≡ SqliteFailure code.OperationInterrupted)
 IsFaultOf steps error Memory = is_memory error ≡ true
 IsFaultOf steps error fault = ⊥
+
+-- a text is no query of so many steps of a database with this schema, by this error: it may name what is missing
+abbrev pub IsFaultOfText : Schema → List ℕ → List ℕ → ℕ → Error → QueryFault → Type 0
+IsFaultOfText schema table query steps error fault =
+    ((found : CompileError) × (error ≡ SqlInputError found) × (left : ℕ) × (fault ≡ Missing (missing_by found) left) × (stray_in schema table query (missing_by found) ≡ Some left))
+    ⊎ (IsFaultOf steps error fault × ((found : CompileError) → error ≡ SqlInputError found → stray_in schema table query (missing_by found) ≡ None))
 
 -- ---- the pages of a database
 

@@ -19,8 +19,9 @@ use Rattle.sqlite.specs.declared.error.Error.{Error}
 use Rattle.sqlite.specs.declared.error.Error.TheVariants.{SqlInputError}
 use Rattle.ruled_sql.specs.Answers.{IsAnswer, LacksAnswer, is_memory, shown_rows}
 use Rattle.ruled_sql.specs.declared.fault.QueryFault.{QueryFault}
-use Rattle.ruled_sql.specs.declared.fault.QueryFault.TheVariants.{Refused}
+use Rattle.ruled_sql.specs.declared.fault.QueryFault.TheVariants.{Missing, Refused}
 use Rattle.ruled_sql.specs.declared.fault.SqlFault.{SqlFault}
+use Rattle.ruled_sql.specs.declared.lack.Meaning.TheVariants as means
 use Rattle.ruled_sql.specs.declared.fault.SqlFault.TheVariants as sql
 
 -- ---- numbers
@@ -217,7 +218,13 @@ is_no_table error = false
 
 abbrev pub names_no_table : QueryFault → Bool
 names_no_table (Refused (SqlInputError NoSuchTable)) = true
+names_no_table (Missing means.Table left) = true
 names_no_table fault = false
+
+-- how many bytes of the query are left from its word on
+abbrev pub left_by : QueryFault → Option ℕ
+left_by (Missing what left) = Some left
+left_by fault = None
 
 -- the query is asked of a database that the table fills
 abbrev pub IsAsked : List ℕ → List (List (List ℕ)) → List ℕ → (Database → Type 0) → Type 0
@@ -227,7 +234,7 @@ IsAsked name table query Lacks = (called : List ℕ) × IsCalled name table quer
 abbrev pub LacksQueried : List ℕ → List (List (List ℕ)) → List ℕ → ℕ → SqlFault → Type 0
 LacksQueried name table query most sql.NoRows = table ≡ []
 LacksQueried name table query most (sql.Columns error) = (called : List ℕ) × IsCalled name table query called × IsUnfilled (steps called table) error
-LacksQueried name table query most sql.NoTable = IsAsked name table query (λ db. (fault : QueryFault) × (names_no_table fault ≡ true) × LacksAnswer query most db fault)
-LacksQueried name table query most (sql.Query fault) = (names_no_table fault ≡ false) × IsAsked name table query (λ db. LacksAnswer query most db fault)
+LacksQueried name table query most (sql.NoTable left) = IsAsked name table query (λ db. (fault : QueryFault) × (names_no_table fault ≡ true) × (left ≡ left_by fault) × LacksAnswer name query most db fault)
+LacksQueried name table query most (sql.Query fault) = (names_no_table fault ≡ false) × IsAsked name table query (λ db. LacksAnswer name query most db fault)
 LacksQueried name table query most sql.Memory = ⊤
 LacksQueried name table query most fault = ⊥

@@ -1,12 +1,18 @@
--- What SQLite's SQL has and `sqlite` lacks.
-use Rattle.std.specs.Prelude.{ℕ, ◌+◌, ◌-◌, ◌^◌, ◌==◌, ◌&&◌, ◌||◌, not, nat_le, Bool, true, false, List, [], ◌∷◌, length, take, drop, map, min, position, Option, Some, None, slice_index_or, if◌then◌else◌}
-use Rattle.std.specs.Char.{is_ascii_alphanumeric, is_ascii_whitespace}
-use Rattle.std.specs.List.{prefix_len}
+-- What a query has and `sqlite`, or the database, lacks.
+use Rattle.std.specs.Prelude.{ℕ, ◌+◌, ◌-◌, ◌^◌, ◌==◌, ◌&&◌, ◌||◌, not, nat_le, nat_lt, Bool, true, false, List, [], ◌∷◌, length, take, drop, map, min, position, Option, Some, None, codes, is_some, slice_index_or, if◌then◌else◌}
+use Rattle.std.specs.Char.{is_ascii_alphanumeric, is_ascii_digit, is_ascii_whitespace}
+use Rattle.std.specs.List.{list_any, prefix_len}
 use Rattle.std.specs.Option.{option_or}
 use Rattle.std.specs.Str.{str_eq_ignore_ascii_case}
+use Rattle.sqlite_resolve.specs.declared.error.CompileError.{CompileError}
+use Rattle.sqlite_resolve.specs.declared.error.CompileError.TheVariants.{NoSuchColumn, NoSuchTable}
+use Rattle.sqlite_schema.specs.Names.{column_named, table_named}
+use Rattle.sqlite_schema.specs.declared.schema.Schema.{Schema}
+use Rattle.ruled_sql.specs.declared.lack.Meaning.{Meaning}
+use Rattle.ruled_sql.specs.declared.lack.Meaning.TheVariants.{Table, Column, Other}
 use Rattle.ruled_sql.specs.declared.lack.Mode.{Mode}
 use Rattle.ruled_sql.specs.declared.lack.Mode.TheVariants as mode
-use Rattle.ruled_sql.specs.declared.lack.TheConstants.{CALLS, LONG_CALLS, WORDS}
+use Rattle.ruled_sql.specs.declared.lack.TheConstants.{CALLS, LEADS, LONG_CALLS, OTHERS, WORDS}
 
 -- ---- what is in quotes or a comment
 
@@ -113,3 +119,115 @@ lack_from mode (b ∷ bs) = option_or (if may_begin mode then lack_at (b ∷ bs)
 
 unfoldable pub lack_in : List ℕ → Option Lack
 lack_in statement = lack_from mode.Between statement
+
+-- ---- names of tables and columns that there aren't
+
+abbrev pub is_among : List (List ℕ) → List ℕ → Bool
+is_among [] word = false
+is_among (first ∷ others) word = if str_eq_ignore_ascii_case first word then true else is_among others word
+
+-- a table or a column has this name; or a view may have it, whose columns aren't known
+abbrev pub is_known : Schema → List ℕ → Bool
+is_known schema name =
+    if nat_lt 0 (length schema.views) then true
+    else if is_some (table_named schema name) then true
+    else list_any (λ table. is_some (column_named table name)) schema.tables
+
+-- a word means a table behind `from` and `join`, and a column behind a word that is before values, unless that is itself a name
+abbrev pub meaning_behind : Schema → List ℕ → Meaning
+meaning_behind schema word =
+    if is_among (codes "from" ∷ codes "join" ∷ []) word then Table
+    else if is_among (map (λ it. it.now) LEADS) word && not (is_known schema word) then Column
+    else Other
+
+-- it means a column behind any sign but `)`, the quotation marks and the marks of a parameter, behind which there is no value
+abbrev pub meaning_beyond : ℕ → Meaning
+meaning_beyond b = if b == 41 || b == 34 || b == 39 || b == 96 || b == 91 || b == 36 || b == 58 || b == 63 || b == 64 then Other else Column
+
+-- what a word means behind the first byte of a text, by what it means in front of it
+unfoldable pub meaning_after : Schema → Meaning → Mode → ℕ → List ℕ → Meaning
+meaning_after schema meaning mode b text =
+    if not (is_outside mode) || is_ascii_whitespace b then meaning
+    else if not (is_word b) then meaning_beyond b
+    else if may_begin mode then meaning_behind schema (word_of text)
+    else meaning
+
+-- a word that means neither a table nor a column may give a name, as `total` in `sum(price) total`; names in a comment, in quotes behind a value, or of a query with `with` aren't searched
+abbrev pub is_comment : Mode → Bool
+is_comment mode.Line = true
+is_comment mode.Comment = true
+is_comment mode.Star = true
+is_comment _ = false
+
+abbrev pub is_other : Meaning → Bool
+is_other Other = true
+is_other _ = false
+
+abbrev pub may_give : Meaning → List ℕ → List ℕ → Bool
+may_give meaning word name = (is_other meaning && str_eq_ignore_ascii_case word name) || str_eq_ignore_ascii_case word (codes "with")
+
+abbrev pub is_quotation : ℕ → Bool
+is_quotation b = b == 34 || b == 39 || b == 96 || b == 91
+
+abbrev pub hides_name : Meaning → Mode → ℕ → Bool
+hides_name meaning mode b = if is_comment mode then true else is_other meaning && (is_outside mode && is_quotation b)
+
+unfoldable pub gives_at : Meaning → Mode → ℕ → List ℕ → List ℕ → Bool
+gives_at meaning mode b text name =
+    if hides_name meaning mode b then true
+    else if not (may_begin mode) then false
+    else may_give meaning (word_of text) name
+
+-- a word of a query may give this name
+abbrev pub gives_from : Schema → Mode → Meaning → List ℕ → List ℕ → Bool
+gives_from schema mode meaning [] name = false
+gives_from schema mode meaning (b ∷ bs) name =
+    if gives_at meaning mode b (b ∷ bs) name then true
+    else gives_from schema (after mode b) (meaning_after schema meaning mode b (b ∷ bs)) bs name
+
+unfoldable pub gives : Schema → List ℕ → List ℕ → Bool
+gives schema query name = gives_from schema mode.Between Other query name
+
+-- a byte behind a word says that it is no name of a table or a column: it is one of a call, in front of a point, or of bytes
+abbrev pub says_otherwise : ℕ → Bool
+says_otherwise next = next == 40 || next == 46 || next == 39 || next == 36
+
+-- a text begins with a word that may be one
+abbrev pub begins_name : ℕ → List ℕ → Bool
+begins_name b text =
+    if not (is_word b) || is_ascii_digit b then false
+    else if is_among (map (λ it. it.now) LEADS) (word_of text) then false
+    else if is_among (map (λ it. it.now) OTHERS) (word_of text) then false
+    else not (says_otherwise (slice_index_or (behind_word text) 0 0))
+
+abbrev pub is_meant : Meaning → Meaning → Bool
+is_meant Table Table = true
+is_meant Column Column = true
+is_meant _ _ = false
+
+unfoldable pub may_name : Meaning → Meaning → Mode → ℕ → List ℕ → Bool
+may_name meaning wanted mode b text = may_begin mode && (is_meant meaning wanted && begins_name b text)
+
+-- how many bytes are left of a text that begins with a name that neither the database has, nor is another one of its table, nor the query gives
+unfoldable pub stray_at : Schema → List ℕ → List ℕ → List ℕ → Option ℕ
+stray_at schema table query text =
+    if is_known schema (word_of text) then None
+    else if str_eq_ignore_ascii_case (word_of text) table then None
+    else if gives schema query (word_of text) then None
+    else Some (length text)
+
+-- of the first such name of a query that is one of a table or of a column, as wanted
+abbrev pub stray_from : Schema → List ℕ → List ℕ → Meaning → Mode → Meaning → List ℕ → Option ℕ
+stray_from schema table query wanted mode meaning [] = None
+stray_from schema table query wanted mode meaning (b ∷ bs) =
+    option_or (if may_name meaning wanted mode b (b ∷ bs) then stray_at schema table query (b ∷ bs) else None)
+    (stray_from schema table query wanted (after mode b) (meaning_after schema meaning mode b (b ∷ bs)) bs)
+
+unfoldable pub stray_in : Schema → List ℕ → List ℕ → Meaning → Option ℕ
+stray_in schema table query wanted = stray_from schema table query wanted mode.Between Other query
+
+-- what is missing by an error
+abbrev pub missing_by : CompileError → Meaning
+missing_by NoSuchTable = Table
+missing_by NoSuchColumn = Column
+missing_by _ = Other

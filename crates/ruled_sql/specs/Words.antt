@@ -2,10 +2,11 @@
 use Rattle.std.specs.Prelude.{◌++◌, ℕ, Bool, true, false, List, Option, Some, None, codes, decimal, is_some, option_map, if◌then◌else◌}
 use Rattle.std.specs.Option.{option_or}
 use Rattle.ruled_sql.specs.declared.fault.QueryFault.{QueryFault}
-use Rattle.ruled_sql.specs.declared.fault.QueryFault.TheVariants.{Refused, Limit, Change, Encoding, Memory}
+use Rattle.ruled_sql.specs.declared.fault.QueryFault.TheVariants.{Refused, Missing, Limit, Change, Encoding, Memory}
 use Rattle.ruled_sql.specs.declared.fault.SqlFault.{SqlFault}
 use Rattle.ruled_sql.specs.declared.fault.SqlFault.TheVariants as sql
 use Rattle.ruled_sql.specs.Lacks.{Lack, lack_in}
+use Rattle.ruled_sql.specs.declared.lack.Meaning.TheVariants.{Table}
 use Rattle.sqlite.specs.declared.error.Error.TheVariants.{SqlInputError, SqliteFailure}
 use Rattle.sqlite.specs.declared.error.ErrorCode.TheVariants.{NoClock}
 use Rattle.sqlite_resolve.specs.declared.error.CompileError.TheVariants.{Exists, NoSuchFunction, Parse, Unsupported}
@@ -14,6 +15,8 @@ use Rattle.sqlite_syntax.specs.declared.error.ParseError.TheVariants as parse
 -- what an error of `sqlite` writes isn't known
 abbrev pub query_fault_text : QueryFault → Option (List ℕ)
 query_fault_text (Refused error) = None
+query_fault_text (Missing Table left) = Some (codes "no such table")
+query_fault_text (Missing _ left) = Some (codes "no such column")
 query_fault_text (Limit steps) = Some (codes "the query takes more than " ++ (decimal steps ++ codes " steps; see --limit-steps"))
 query_fault_text Change = Some (codes "the query changes the database")
 query_fault_text (Encoding row) = Some (codes "row " ++ (decimal row ++ codes ": not UTF-8"))
@@ -25,16 +28,18 @@ sql_fault_text sql.Damage = Some (codes "a query can't read this database, but -
 sql_fault_text sql.NoRows = Some (codes "there is no row 0, so there is no table")
 sql_fault_text (sql.Columns (SqlInputError Exists)) = Some (codes "two columns have one name, whose case doesn't count")
 sql_fault_text (sql.Columns error) = None
-sql_fault_text sql.NoTable = Some (codes "no such table")
+sql_fault_text (sql.NoTable left) = Some (codes "no such table")
 sql_fault_text (sql.Query fault) = query_fault_text fault
 sql_fault_text sql.Memory = Some (codes "out of memory")
 
 -- ---- queries that are refused
 
--- how many bytes of a statement are left from the word on that no rule reads
+-- how many bytes of a statement are left from the word on that no rule reads, or that names what there isn't
 abbrev pub left_in : SqlFault → Option ℕ
 left_in (sql.Query (Refused (SqlInputError (Parse (parse.Syntax left))))) = Some left
 left_in (sql.Query (Refused (SqlInputError (Parse (parse.Unsupported left))))) = Some left
+left_in (sql.Query (Missing what left)) = Some left
+left_in (sql.NoTable left) = left
 left_in fault = None
 
 abbrev pub may_lack : SqlFault → Bool
@@ -58,6 +63,7 @@ lack_text lack = codes "not supported: " ++ (lack.0 ++ (codes " (" ++ (lack.1 ++
 abbrev pub misread_text : SqlFault → Option (List ℕ)
 misread_text (sql.Query (Refused (SqlInputError (Parse (parse.Syntax left))))) = Some (codes "syntax error")
 misread_text (sql.Query (Refused (SqlInputError (Parse (parse.Unsupported left))))) = Some (codes "not supported")
+misread_text (sql.Query (Refused (SqlInputError Unsupported))) = Some (codes "something in the query isn't supported")
 misread_text fault = sql_fault_text fault
 
 abbrev pub refusal_text : SqlFault → List ℕ → Option (List ℕ)

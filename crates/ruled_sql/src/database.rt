@@ -6,12 +6,14 @@ ghost use Rattle.sqlite.specs.Held.{IsNew, state};
 ghost use Rattle.sqlite.specs.Start.{FindsIn};
 ghost use Rattle.sqlite.specs.State.{HasCleanDisk};
 ghost use Rattle.sqlite_disk.specs.Memory.{memory_bytes, memory_is_usable};
-ghost use Rattle.ruled_sql.specs.Answers.{IsAnswer, IsFaultOf, IsFaultOfFile, IsUnopened, LacksAnswer, image_of, kept_pages};
+ghost use Rattle.ruled_sql.specs.Answers.{IsAnswer, IsFaultOf, IsFaultOfFile, IsFaultOfText, IsUnopened, LacksAnswer, image_of, kept_pages};
 ghost use Rattle.ruled_sql.specs.declared.fault.SqlFault.{SqlFault};
 
 use crate::fault::{QueryFault, SqlFault, is_memory};
+use crate::lack::{missing_by, stray_in};
 use sqlite::{Alter, Connection, Error, ErrorCode, FileStore, Files, Options, Row, Statement};
 use sqlite_disk::{Disk, Memory};
+use sqlite_schema::schema::Schema;
 use std::alloc::Global;
 
 // A copy of bytes, as a file in memory.
@@ -87,6 +89,19 @@ fn fault_of(error: Error, steps: u64) -> QueryFault
     }
 }
 
+// Why a text is no query of so many steps of a database with this schema.
+fn fault_of_text(schema: &Schema, table: &str, query: &str, error: Error, steps: u64) -> QueryFault
+    ensures { IsFaultOfText schema.now table.now query.now steps error result }
+{
+    if let Error::SqlInputError(fault) = error {
+        let missing = missing_by(fault);
+        if let Some(left) = stray_in(schema, table.as_bytes(), query.as_bytes(), missing) {
+            return QueryFault::Missing(missing, left);
+        }
+    }
+    fault_of(error, steps)
+}
+
 /// What a query answers.
 #[derive(Drop)]
 pub(crate) struct Answer {
@@ -95,21 +110,23 @@ pub(crate) struct Answer {
     pub(crate) rows: Vec<Row>,
 }
 
-/// What a query answers in so many steps at most, over a connection that counts no changed row.
+/// What a query answers in so many steps at most, over a connection that counts no changed row. A name of its table, beside
+/// those that it has, is never missing.
 pub(crate) fn answer_of<S: Alter>(
     connection: &mut Connection<S>,
+    table: &str,
     query: &str,
     steps: u64,
 ) -> Result<Answer, QueryFault>
     ensures answer { HasCleanDisk (state S.Store connection.new) → connection.old.changes ≡ 0
         → IfOk result (λ it. IsAnswer query.now steps (state S.Store connection.old).now it.statement.columns it.rows.items) }
     ensures fault { HasCleanDisk (state S.Store connection.new) → connection.old.changes ≡ 0
-        → IfErr result (LacksAnswer query.now steps (state S.Store connection.old).now) }
+        → IfErr result (LacksAnswer table.now query.now steps (state S.Store connection.old).now) }
 {
     connection.set_step_limit(Some(steps));
     let statement = match connection.prepare(query) {
         Ok(statement) => statement,
-        Err(error) => return Err(fault_of(error, steps)),
+        Err(error) => return Err(fault_of_text(connection.schema(), table, query, error, steps)),
     };
     let rows = match statement.query_all(connection, &[]) {
         Ok(rows) => rows,

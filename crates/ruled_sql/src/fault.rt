@@ -9,7 +9,7 @@ ghost use Rattle.ruled_sql.specs.declared.fault.SqlFault.TheVariants.{Query};
 ghost use Rattle.std.specs.Fmt.{DisplaysOnOk};
 ghost use Rattle.ruled_sql.specs.Words as spec;
 
-use crate::lack::{Lack, lack_in};
+use crate::lack::{Lack, Meaning, lack_in};
 use sqlite::{Error, ErrorCode};
 use sqlite_resolve::CompileError;
 use sqlite_syntax::error::ParseError;
@@ -21,6 +21,8 @@ use std::fmt::{self, Display};
 pub enum QueryFault {
     /// It isn't understood, or fails, with this error.
     Refused(Error),
+    /// It names what the database lacks, by the word from which so many bytes of it are left.
+    Missing(Meaning, usize),
     /// It takes more steps than this.
     Limit(u64),
     /// It changes the database.
@@ -42,8 +44,9 @@ pub enum SqlFault {
     NoRows,
     /// The rows make no table, as this error says: for the names of row 0, or for a row that is too long.
     Columns(Error),
-    /// The query names another table than that of the rows.
-    NoTable,
+    /// The query names another table than that of the rows: by the word from which so many bytes of it are left, if that is
+    /// found.
+    NoTable(Option<usize>),
     /// The query has none.
     Query(QueryFault),
     /// Out of memory, before the query was read.
@@ -117,6 +120,8 @@ impl Display for QueryFault {
                 )
             }
             QueryFault::Refused(error) => write!(f, "the query fails: {error}"),
+            QueryFault::Missing(Meaning::Table, _) => f.write_str("no such table"),
+            QueryFault::Missing(_, _) => f.write_str("no such column"),
             QueryFault::Encoding(row) => write!(f, "row {row}: not UTF-8"),
             QueryFault::Change => f.write_str("the query changes the database"),
             QueryFault::Memory => f.write_str("out of memory"),
@@ -139,7 +144,7 @@ impl Display for SqlFault {
                 "two columns have one name, whose case doesn't count"
             }
             SqlFault::Columns(error) => return write!(f, "the columns make no table: {error}"),
-            SqlFault::NoTable => "no such table",
+            SqlFault::NoTable(_) => "no such table",
             SqlFault::Query(fault) => return fault.fmt(f),
             SqlFault::Memory => "out of memory",
         };
@@ -156,7 +161,8 @@ pub struct Refusal<'a> {
     pub query: &'a str,
 }
 
-// How many bytes of a statement are left from the word on that no rule reads, if that is why it has no rows.
+// How many bytes of a statement are left from the word on that no rule reads, or that names what there isn't, if that is
+// why it has no rows.
 fn left_in(fault: SqlFault) -> Option<usize>
     ensures { result ≡ spec.left_in fault }
 {
@@ -167,7 +173,9 @@ fn left_in(fault: SqlFault) -> Option<usize>
                     CompileError::Parse(ParseError::Syntax(left) | ParseError::Unsupported(left)),
                 ),
             ),
-        ) => Some(left),
+        )
+        | SqlFault::Query(QueryFault::Missing(_, left)) => Some(left),
+        SqlFault::NoTable(left) => left,
         _ => None,
     }
 }
@@ -199,8 +207,8 @@ impl Refusal<'_> {
         None
     }
 
-    /// How many bytes of the query are left from the word on that no rule reads, if that is why it has no rows, and no
-    /// word that `sqlite` lacks.
+    /// How many bytes of the query are left from the word on that no rule reads, or that names what there isn't, if that
+    /// is why it has no rows, and no word that `sqlite` lacks.
     pub fn left(&self) -> Option<usize>
         ensures { result ≡ spec.left_of self.now.fault self.now.query.now }
     {
@@ -224,6 +232,9 @@ fn write_fault<W: fmt::Write>(fault: SqlFault, f: &mut fmt::Formatter<W>) -> fmt
                 Error::SqlInputError(CompileError::Parse(ParseError::Unsupported(_))),
             ),
         ) => f.write_str("not supported"),
+        SqlFault::Query(QueryFault::Refused(Error::SqlInputError(CompileError::Unsupported))) => {
+            f.write_str("something in the query isn't supported")
+        }
         _ => fault.fmt(f),
     }
 }

@@ -1,8 +1,13 @@
-//! What SQLite's SQL has and `sqlite` lacks.
+//! What a query has and `sqlite`, or the database, lacks.
 
-ghost use Rattle.std.specs.Prelude.{◌≡◌, ◌<◌, length, map, not, option_map, position, IfSome};
+ghost use Rattle.std.specs.Prelude.{◌≡◌, ◌<◌, length, map, not, is_some, option_map, position, IfSome};
+ghost use Rattle.std.specs.List.{list_any};
 ghost use Rattle.std.specs.Str.{str_eq_ignore_ascii_case};
+ghost use Rattle.sqlite_schema.specs.Names.{column_named};
 ghost use Rattle.ruled_sql.specs.Lacks as spec;
+
+use sqlite_resolve::CompileError;
+use sqlite_schema::schema::{Schema, Table};
 
 /// How a byte of a statement is read.
 #[derive(Clone, Copy)]
@@ -172,6 +177,63 @@ const LONG_CALLS: [Lack; 6] = [
     ("trim", "with characters to remove"),
 ];
 
+/// What a word at a place of a query means, if it has no other meaning.
+#[derive(Clone, Copy)]
+pub enum Meaning {
+    /// A table.
+    Table,
+    /// A column.
+    Column,
+    /// Something else, as a name that the query gives.
+    Other,
+}
+
+/// Words that are before a value.
+const LEADS: [&str; 21] = [
+    "all",
+    "and",
+    "between",
+    "by",
+    "case",
+    "distinct",
+    "else",
+    "having",
+    "is",
+    "like",
+    "limit",
+    "not",
+    "offset",
+    "on",
+    "or",
+    "returning",
+    "select",
+    "set",
+    "then",
+    "when",
+    "where",
+];
+
+/// Other words that are no names of tables and columns.
+const OTHERS: [&str; 17] = [
+    "_rowid_",
+    "conflict",
+    "default",
+    "exists",
+    "false",
+    "from",
+    "glob",
+    "in",
+    "match",
+    "null",
+    "oid",
+    "regexp",
+    "rowid",
+    "sqlite_master",
+    "sqlite_schema",
+    "true",
+    "values",
+];
+
 // Whether a byte is one of a word.
 fn is_word(byte: u8) -> bool
     ensures { result ≡ spec.is_word byte }
@@ -219,6 +281,13 @@ impl Mode {
         ensures { result ≡ spec.is_outside self }
     {
         matches!(self, Mode::Between | Mode::Word | Mode::Dash | Mode::Slash)
+    }
+
+    // Whether the next byte is in a comment.
+    fn is_comment(self) -> bool
+        ensures { result ≡ spec.is_comment self }
+    {
+        matches!(self, Mode::Line | Mode::Comment | Mode::Star)
     }
 
     // Whether a word may begin.
@@ -271,11 +340,11 @@ fn is_call(behind: &[u8]) -> bool
     !behind.is_empty() && behind[0] == b'('
 }
 
-// Whether this is what is listed of a word, in any case.
-fn is_listed(lack: &Lack, word: &[u8]) -> bool
-    ensures { result ≡ str_eq_ignore_ascii_case lack.now.0.now word.now }
+// Whether two words are equal, in any case.
+fn is_same(known: &str, word: &[u8]) -> bool
+    ensures { result ≡ str_eq_ignore_ascii_case known.now word.now }
 {
-    lack.0.as_bytes().eq_ignore_ascii_case(word)
+    known.as_bytes().eq_ignore_ascii_case(word)
 }
 
 // What these words say of one, in any case.
@@ -283,7 +352,7 @@ fn lack_named(mut lacks: &[Lack], word: &[u8]) -> Option<Lack>
     ensures { option_map (λ it. (it.0.now, it.1.now)) result ≡ spec.lack_named (map (λ it. (it.0.now, it.1.now)) lacks.entry.now) word.now }
 {
     while let [lack, others @ ..] = lacks {
-        if is_listed(lack, word) {
+        if is_same(lack.0, word) {
             return Some(*lack);
         }
         lacks = others;
@@ -365,4 +434,230 @@ pub(crate) fn lack_in(mut text: &[u8]) -> Option<Lack>
         text = rest;
     }
     None
+}
+
+// Whether a word is one of these, in any case.
+fn is_among(mut words: &[&str], word: &[u8]) -> bool
+    ensures { result ≡ spec.is_among (map (λ it. it.now) words.entry.now) word.now }
+{
+    while let [first, others @ ..] = words {
+        if is_same(*first, word) {
+            return true;
+        }
+        words = others;
+    }
+    false
+}
+
+// Whether a column has this name.
+fn has_column(tables: &[Table], name: &[u8]) -> bool
+    ensures { result ≡ list_any (λ table. is_some (column_named table name.now)) tables.now }
+{
+    tables
+        .iter()
+        .any(|table| table.column_named(name).is_some())
+}
+
+// Whether a table or a column has this name, or may have it: the columns of views aren't known.
+fn is_known(schema: &Schema, name: &[u8]) -> bool
+    ensures { result ≡ spec.is_known schema.now name.now }
+{
+    if schema.views.len() > 0 {
+        return true;
+    }
+    if schema.table_named(name).is_some() {
+        return true;
+    }
+    has_column(schema.tables.as_slice(), name)
+}
+
+// What a word means behind this one.
+fn meaning_behind(schema: &Schema, word: &[u8]) -> Meaning
+    ensures { result ≡ spec.meaning_behind schema.now word.now }
+{
+    if is_among(&["from", "join"], word) {
+        return Meaning::Table;
+    }
+    if is_among(&LEADS, word) && !is_known(schema, word) {
+        return Meaning::Column;
+    }
+    Meaning::Other
+}
+
+// Whether a byte opens quotes.
+fn is_quotation(byte: u8) -> bool
+    ensures { result ≡ spec.is_quotation byte }
+{
+    matches!(byte, b'"' | b'\'' | b'`' | b'[')
+}
+
+// What a word means behind a byte of no word and no blank: after a value, or the mark of a parameter, no column.
+fn meaning_beyond(byte: u8) -> Meaning
+    ensures { result ≡ spec.meaning_beyond byte }
+{
+    match byte {
+        b')' | b'"' | b'\'' | b'`' | b'[' | b'$' | b':' | b'?' | b'@' => Meaning::Other,
+        _ => Meaning::Column,
+    }
+}
+
+impl Meaning {
+    #[tactic(auto, unfolding(crate::specs::Lacks::meaning_after))]
+    // What a word means behind the first byte of a text, which is read so.
+    fn after(self, schema: &Schema, mode: Mode, byte: u8, text: &[u8]) -> Meaning
+        ensures { result ≡ spec.meaning_after schema.now self mode byte text.now }
+    {
+        if !mode.is_outside() || byte.is_ascii_whitespace() {
+            return self;
+        }
+        if !is_word(byte) {
+            return meaning_beyond(byte);
+        }
+        if !mode.may_begin() {
+            return self;
+        }
+        meaning_behind(schema, word_of(text))
+    }
+
+    // Whether a word of this meaning may give this name.
+    fn may_give(self, word: &[u8], name: &[u8]) -> bool
+        ensures { result ≡ spec.may_give self word.now name.now }
+    {
+        let is_given = matches!(self, Meaning::Other) && word.eq_ignore_ascii_case(name);
+        is_given || word.eq_ignore_ascii_case(b"with")
+    }
+
+    // Whether a byte that is read so may be the first of a name that isn't searched: one in a comment, or in quotes behind a
+    // value.
+    fn hides_name(self, mode: Mode, byte: u8) -> bool
+        ensures { result ≡ spec.hides_name self mode byte }
+    {
+        if mode.is_comment() {
+            return true;
+        }
+        matches!(self, Meaning::Other) && mode.is_outside() && is_quotation(byte)
+    }
+
+    #[tactic(auto, unfolding(crate::specs::Lacks::gives_at))]
+    // Whether a text that is read so may begin with what gives this name.
+    fn gives_at(self, mode: Mode, byte: u8, text: &[u8], name: &[u8]) -> bool
+        ensures { result ≡ spec.gives_at self mode byte text.now name.now }
+    {
+        if self.hides_name(mode, byte) {
+            return true;
+        }
+        if !mode.may_begin() {
+            return false;
+        }
+        self.may_give(word_of(text), name)
+    }
+
+    #[tactic(auto, unfolding(crate::specs::Lacks::may_name))]
+    // Whether a text that is read so may begin with a word of this meaning that names what is wanted.
+    fn may_name(self, wanted: Meaning, mode: Mode, byte: u8, text: &[u8]) -> bool
+        ensures { result ≡ spec.may_name self wanted mode byte text.now }
+    {
+        let is_wanted = matches!(
+            (self, wanted),
+            (Meaning::Table, Meaning::Table) | (Meaning::Column, Meaning::Column)
+        );
+        mode.may_begin() && is_wanted && begins_name(byte, text)
+    }
+}
+
+#[tactic(auto, unfolding(crate::specs::Lacks::gives))]
+// Whether a query gives this name, or may give it.
+fn gives(schema: &Schema, mut text: &[u8], name: &[u8]) -> bool
+    ensures { result ≡ spec.gives schema.now text.entry.now name.now }
+{
+    let (mut mode, mut meaning) = (Mode::Between, Meaning::Other);
+    while let [byte, rest @ ..] = text {
+        if meaning.gives_at(mode, *byte, text, name) {
+            return true;
+        }
+        meaning = meaning.after(schema, mode, *byte, text);
+        mode = mode.after(*byte);
+        text = rest;
+    }
+    false
+}
+
+// Whether the byte after a word shows that the word names no table or column: it is called, before a point, or begins bytes.
+fn says_otherwise(next: u8) -> bool
+    ensures { result ≡ spec.says_otherwise next }
+{
+    matches!(next, b'(' | b'.' | b'\'' | b'$')
+}
+
+// Whether a text begins with what may be the name of a table or a column.
+fn begins_name(byte: u8, text: &[u8]) -> bool
+    ensures { result ≡ spec.begins_name byte text.now }
+{
+    if !is_word(byte) || byte.is_ascii_digit() {
+        return false;
+    }
+    let word = word_of(text);
+    if is_among(&LEADS, word) {
+        return false;
+    }
+    if is_among(&OTHERS, word) {
+        return false;
+    }
+    !says_otherwise(behind_word(text).get(0).copied().unwrap_or(0))
+}
+
+#[tactic(auto, unfolding(crate::specs::Lacks::stray_at))]
+// How many bytes a text of a query has that begins with a name, unless the database or its table has the name, or the query
+// gives it.
+fn stray_at(schema: &Schema, table: &[u8], query: &[u8], text: &[u8]) -> Option<usize>
+    ensures { result ≡ spec.stray_at schema.now table.now query.now text.now }
+{
+    let name = word_of(text);
+    if is_known(schema, name) {
+        return None;
+    }
+    if name.eq_ignore_ascii_case(table) {
+        return None;
+    }
+    if gives(schema, query, name) {
+        return None;
+    }
+    Some(text.len())
+}
+
+#[tactic(auto, unfolding(crate::specs::Lacks::stray_in))]
+/// How many bytes of a query are left from the first name of what is wanted on that neither the database nor its table has,
+/// nor the query gives.
+pub(crate) fn stray_in(
+    schema: &Schema,
+    table: &[u8],
+    query: &[u8],
+    wanted: Meaning,
+) -> Option<usize>
+    ensures { result ≡ spec.stray_in schema.now table.now query.now wanted }
+{
+    let (mut mode, mut meaning) = (Mode::Between, Meaning::Other);
+    let mut text = query;
+    while let [byte, rest @ ..] = text {
+        if meaning.may_name(wanted, mode, *byte, text) {
+            if let Some(left) = stray_at(schema, table, query, text) {
+                return Some(left);
+            }
+        }
+        meaning = meaning.after(schema, mode, *byte, text);
+        mode = mode.after(*byte);
+        text = rest;
+    }
+    None
+}
+
+/// What is missing by an error of `sqlite`.
+pub(crate) fn missing_by(error: CompileError) -> Meaning
+    ensures { result ≡ spec.missing_by error }
+{
+    match error {
+        CompileError::NoSuchTable => Meaning::Table,
+        CompileError::NoSuchColumn => Meaning::Column,
+        _ => Meaning::Other,
+    }
 }

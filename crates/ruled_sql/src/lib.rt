@@ -11,4 +11,5 @@ mod rows;
 mod statements;
 
 pub use crate::fault::{QueryFault, Refusal, SqlFault};
+pub use crate::lack::Meaning;
 pub use crate::rows::{query_rows, query_table};

@@ -4,12 +4,13 @@ ghost use Rattle.std.specs.Prelude.{◌≡◌, ◌≢◌, [], map, Err, IfErr, I
 ghost use Rattle.csv.specs.Records.{fields_of};
 ghost use Rattle.ruled_database.specs.Tables.{shown_text};
 ghost use Rattle.ruled_sql.specs.Answers.{AreAnswered, HoldsNone, IsFaultOfRow, LacksRows, LacksText, shown_rows};
-ghost use Rattle.ruled_sql.specs.Filled.{AreQueried, LacksQueried, names_no_table};
+ghost use Rattle.ruled_sql.specs.Filled.{AreQueried, LacksQueried, left_by, names_no_table};
 ghost use Rattle.ruled_sql.specs.declared.fault.SqlFault.TheVariants.{Database, NoRows, NoTable, Query};
 
 use crate::database::{answer_of, open};
 use crate::fault::{QueryFault, SqlFault};
 use crate::filled::{filled, name_for};
+use crate::lack::Meaning;
 use crate::statements::columns_text;
 use ruled_database::push_value;
 use ruled_row::{RowBuffer, TextRow};
@@ -92,7 +93,7 @@ pub fn query_rows(
     ensures fault { IfErr result (LacksRows bytes.now query.now steps) }
 {
     let mut connection = open(alloc, bytes)?;
-    let answer = answer_of(&mut connection, query, steps)?;
+    let answer = answer_of(&mut connection, "", query, steps)?;
     let rows = rows_in(alloc, null, answer.statement.column_names(), &answer.rows)?;
     Ok(rows)
 }
@@ -100,10 +101,13 @@ pub fn query_rows(
 // Why a query of one table has no rows.
 fn fault_of_table(fault: QueryFault) -> SqlFault
     ensures rows { result ≢ NoRows }
-    ensures fault { result ≡ (if names_no_table fault then NoTable else Query fault) }
+    ensures fault { result ≡ (if names_no_table fault then NoTable (left_by fault) else Query fault) }
 {
     match fault {
-        QueryFault::Refused(Error::SqlInputError(CompileError::NoSuchTable)) => SqlFault::NoTable,
+        QueryFault::Missing(Meaning::Table, left) => SqlFault::NoTable(Some(left)),
+        QueryFault::Refused(Error::SqlInputError(CompileError::NoSuchTable)) => {
+            SqlFault::NoTable(None)
+        }
         _ => SqlFault::Query(fault),
     }
 }
@@ -132,7 +136,7 @@ pub fn query_table(
     let columns = columns_text(alloc, names, records)?;
     let called = name_for(alloc, name, columns.as_str(), query)?;
     let mut connection = filled(alloc, called, columns.as_str(), names.len(), records)?;
-    let found = match answer_of(&mut connection, query, steps) {
+    let found = match answer_of(&mut connection, name, query, steps) {
         Ok(found) => found,
         Err(fault) => return Err(fault_of_table(fault)),
     };

@@ -1,18 +1,19 @@
-use Rattle.std.proofs.Common.{◌≡◌, ◌∙◌, [], Some, subst, arith}
+use Rattle.std.proofs.Common.{◌≡◌, ◌∙◌, [], Some, Err, subst, arith}
 use Rattle.sqlite.specs.Effect.{Database}
 use Rattle.sqlite.specs.Held.{state}
+use Rattle.sqlite.specs.Listing.{understood}
 use Rattle.sqlite.specs.State.{FailsToQuery, HasCleanDisk}
 use Rattle.ruled_sql.specs.Answers.{IsAnswer, IsChange, LacksAnswer}
 use Rattle.ruled_sql.proofs.Answering.{answers, changed, limited_changes, limited_now, limited_steps}
-use Rattle.ruled_sql.proofs.Refused.{unanswered, unread}
+use Rattle.ruled_sql.proofs.Refused.{unanswered, understands, unread-text}
 use Rattle.ruled_sql.proofs.database.answer_of.Goals as goal
 
 pub returns-in-Err-clause-fault : goal.returns-in-Err-clause-fault
 returns-in-Err-clause-fault g c clean uncounted =
     let over = g.S.Store in
     let limited = c.set_step_limit.new.self in
-    subst (λ (db : Database). LacksAnswer c.args.query.now c.args.steps db c.fault_of.result) (limited_now over c.args.connection.now limited (Some c.args.steps) c.set_step_limit.ensures)
-    (unread c.args.query.now c.args.steps (state over limited) (state over c.prepare.new.self) c.in-Err.error c.fault_of.result c.fault_of.ensures (c.in-Err.ensures.err clean []))
+    subst (λ (db : Database). LacksAnswer c.args.table.now c.args.query.now c.args.steps db c.fault_of_text.result) (limited_now over c.args.connection.now limited (Some c.args.steps) c.set_step_limit.ensures)
+    (unread-text c.args.table.now c.args.query.now c.args.steps (state over limited) (state over c.prepare.new.self) c.in-Err.error c.fault_of_text.result c.schema.result.now c.schema.ensures.value c.fault_of_text.ensures (c.in-Err.ensures.err clean []))
 
 pub returns-in-Err-query_all-clause-fault : goal.returns-in-Err-query_all-clause-fault
 returns-in-Err-query_all-clause-fault g c clean uncounted =
@@ -27,8 +28,9 @@ returns-in-Err-query_all-clause-fault g c clean uncounted =
     let still : HasCleanDisk mid = omega (arith, doubts, clean) in
     let prepared = c.in-Ok.ensures.ok still in
     let limit = c.in-Ok.ensures.survives.limit ∙ limited_steps over first limited (Some c.args.steps) told in
-    subst (λ (db : Database). LacksAnswer c.args.query.now c.args.steps db c.fault_of-in-Err-query_all.result) (prepared.1.0.now_is ∙ limited_now over first limited (Some c.args.steps) told)
-    (unanswered c.args.query.now c.args.steps mid new c.in-Err-query_all.error c.fault_of-in-Err-query_all.result c.fault_of-in-Err-query_all.ensures limit
+    subst (λ (db : Database). LacksAnswer c.args.table.now c.args.query.now c.args.steps db c.fault_of.result) (prepared.1.0.now_is ∙ limited_now over first limited (Some c.args.steps) told)
+    (unanswered c.args.table.now c.args.query.now c.args.steps mid new c.in-Err-query_all.error c.fault_of.result c.fault_of.ensures limit
+    (λ found is. understands _ c.in-Ok.statement (c.in-Ok.ensures.shape still) found (subst (λ (db : Database). understood db.schema c.args.query.now ≡ Err found) prepared.1.0.now_is is))
     (subst (λ (text : _). FailsToQuery text [] mid new c.in-Err-query_all.error) prepared.0 (c.in-Err-query_all.ensures.err clean)))
 
 pub returns-then-changes-gt0-clause-fault : goal.returns-then-changes-gt0-clause-fault
