@@ -313,10 +313,9 @@ fn tell_member<W: Write>(path: &[String], err: &mut W) -> io::Result<()> {
 // The word of a query from which so many bytes are left, or its text up to a blank where no word begins.
 fn word_at(query: &str, left: usize) -> &str {
     let rest = query.get(query.len().saturating_sub(left)..).unwrap_or("");
-    let end = rest
-        .as_bytes()
-        .iter()
-        .position(|byte| !byte.is_ascii_alphanumeric() && *byte != b'_' && *byte < 128);
+    let end = rest.as_bytes().iter().position(|byte| !byte.is_ascii_alphanumeric()
+        && *byte != b'_'
+        && *byte < 128);
     match end {
         Some(0) => rest.split_once(' ').map_or(rest, |(word, _)| word),
         Some(end) => rest.get(..end).unwrap_or(rest),
