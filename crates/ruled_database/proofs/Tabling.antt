@@ -313,7 +313,7 @@ module _ (file : List ℕ) (definition : Definition) (row : Stored) (n m : ℕ) 
       subst (λ (f : TableFault). GivesRow {U = V} file definition row n m old new (Err f)) (sym told) tt
   gives_wrong {U} {V} x record_bytes texts old new (Err fault) Damage at told place read is lacks = absurd lacks
   gives_wrong {U} {V} x record_bytes texts old new (Err fault) Default at told place read is lacks = absurd lacks
-  gives_wrong {U} {V} x record_bytes texts old new (Err fault) (Encoding n) at told place read is lacks =
+  gives_wrong {U} {V} x record_bytes texts old new (Err fault) (Encoding number) at told place read is lacks =
       let same : record_bytes ≡ read.0 = read.2 in
       let here = place (λ e. cc e) in
       let wrong = subst₂ (λ (t : List (List ℕ)) (f : TableFault). LacksTexts t f) is here lacks in

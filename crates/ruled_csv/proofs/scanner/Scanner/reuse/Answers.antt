@@ -10,4 +10,5 @@ returns-then-len-eq0-clause-hand c =
     let none = nil_from_length (fields_of s.row) (sym c.len.ensures.count ∙ c.if-len-eq0.true) in
     let fields : fields_of c.clear.new.self ≡ fields_of s.row = c.clear.ensures.fields ∙ sym none in
     let partial : partial_of c.clear.new.self ≡ partial_of s.row = c.clear.ensures.partial ∙ sym c.len.ensures.partial in
-    ap₂ (λ (fs : List (List ℕ)) (front : List ℕ). (record (hand_of s) { fields = fs; field = front ++ s.field.items } : Hand)) fields partial
+    let with_row : List (List ℕ) → List ℕ → Hand = λ fs front. record (hand_of s) { fields = fs; field = front ++ s.field.items } in
+    ap₂ with_row fields partial
