@@ -667,8 +667,8 @@ module _ (dialect : Dialect) (left : Left) (byte : ℕ) (lines : Lines) (counted
       fresh (left_after dialect left byte) (lines_after lines byte) read
       (ap lines_in kept ∙ lines-on left.kept (byte ∷ []) ∙ ap (λ (l : Lines). lines_after l byte) (counted.same none))
 
-  next : Counted (left_after dialect left byte) (lines_after lines byte)
-  next = elim (cases_Bool (leaves_out dialect left byte)) [
+  next-counted : Counted (left_after dialect left byte) (lines_after lines byte)
+  next-counted = elim (cases_Bool (leaves_out dialect left byte)) [
     | inl is ↦ next-out is
     | inr read ↦ elim (cases_Bool left.is_out) [
       | inl out ↦ next-end read out
@@ -678,7 +678,7 @@ module _ (dialect : Dialect) (left : Left) (byte : ℕ) (lines : Lines) (counted
 
 lines-from : (dialect : Dialect) (left : Left) (lines : Lines) (text : List ℕ) → Counted left lines → (lines_in (left_from dialect left text).kept).line ≡ (fold lines_after lines text).line
 lines-from dialect left lines [] counted = counted.line
-lines-from dialect left lines (byte ∷ text) counted = lines-from dialect (left_after dialect left byte) (lines_after lines byte) text (next dialect left byte lines counted)
+lines-from dialect left lines (byte ∷ text) counted = lines-from dialect (left_after dialect left byte) (lines_after lines byte) text (next-counted dialect left byte lines counted)
 
 pub lines_count : LinesCount
 lines_count dialect text =

@@ -14,7 +14,7 @@ ghost use Rattle.pg_table.specs.declared.sizes.Axis.TheVariants.{Columns, Rows};
 ghost use Rattle.pg_layout.specs.Records.{columns_of};
 
 use crate::fault::TableFault;
-use crate::fitted::{FilledTable, FittedTable};
+use crate::fitted::FittedTable;
 use crate::overflow::Overflow;
 use crate::table::Table;
 use pg_layout::{
