@@ -6,7 +6,7 @@ ghost use Rattle.std.specs.Str.{IsCharBoundary};
 ghost use Rattle.pg_layout.specs.Text.{Text, width_of};
 ghost use Rattle.unicode_segmentation.specs.Grapheme.{graphemes};
 ghost use Rattle.std.specs.List.{join_with_byte};
-ghost use Rattle.pg_fit.specs.Printable.{is_printable};
+ghost use Rattle.pg_fit.specs.Controls.{is_printable};
 ghost use Rattle.pg_fit.specs.Wrapping.{Piece, filled, characters, words, indented, parted};
 ghost use Rattle.pg_fit.specs.Inside.{IsNextWord, words_from};
 

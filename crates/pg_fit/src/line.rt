@@ -5,7 +5,7 @@ ghost use Rattle.std.specs.List.{list_all};
 ghost use Rattle.std.specs.Str.{IsCharBoundary};
 ghost use Rattle.pg_layout.specs.Text.{width_of};
 ghost use Rattle.pg_fit.specs.Inside.{adds_up};
-ghost use Rattle.pg_fit.specs.Printable.{is_printable};
+ghost use Rattle.pg_fit.specs.Controls.{is_printable};
 
 use crate::controls::is_printable;
 use pg_layout::get_line_width;

@@ -3,7 +3,7 @@ use Rattle.std.specs.Prelude.{IfNone, IfSome}
 use Rattle.csv.specs.Records.{AllText, Row, fields_of}
 use Rattle.ruled_csv.specs.Faults.{has_length}
 use Rattle.ruled_csv.specs.declared.fault.RowsFault.TheVariants.{Encoding}
-use Rattle.ruled_csv.proofs.SoundRows.{row_right, row_wrong}
+use Rattle.ruled_csv.proofs.TextFaults.{row_right, row_wrong}
 use Rattle.ruled_csv.proofs.reader.text_of.Goals as goal
 
 pub returns-in-Some-clause-same : goal.returns-in-Some-clause-same
