@@ -17,3 +17,4 @@ pub mod Filled
 pub mod Html
 pub mod Rearranged
 pub mod Setters
+pub mod Coloring

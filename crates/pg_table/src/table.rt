@@ -16,6 +16,7 @@ use std::alloc::{AllocError, Allocator, Global};
 use std::convert::AsStr;
 use std::marker::Model;
 
+mod colors;
 mod html;
 mod lines;
 mod markdown;
