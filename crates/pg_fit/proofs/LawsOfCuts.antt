@@ -24,8 +24,8 @@ use Rattle.pg_fit.proofs.LawsOfTexts.{NoFeeds, NoFeeds-append, NoFeeds-first, No
 use Rattle.std.proofs.lemmas.List.Folds.{drop_split, list_all-append}
 use Rattle.unicode_segmentation.proofs.TextLemmas.{slice_range_split, length-slice_range}
 use Rattle.pg_fit.specs.Inside.{adds_up}
-use Rattle.pg_fit.specs.declared.cutting.Kept.{Kept}
-use Rattle.pg_fit.specs.declared.cutting.Kept.TheVariants.{End, BothEnds}
+use Rattle.pg_fit.specs.declared.cutting_away.Kept.{Kept}
+use Rattle.pg_fit.specs.declared.cutting_away.Kept.TheVariants.{End, BothEnds}
 use Rattle.pg_fit.specs.Rows.{is_fitting, cut_cell}
 
 -- ---- lines that stay or are cut

@@ -4,8 +4,8 @@ use Rattle.unicode_segmentation.specs.Grapheme.{graphemes}
 use Rattle.pg_layout.specs.Text.{Text, lines_of, width_of}
 use Rattle.std.specs.List.{join_with_byte}
 use Rattle.pg_fit.specs.Wrapping.{fits}
-use Rattle.pg_fit.specs.declared.cutting.Kept.{Kept}
-use Rattle.pg_fit.specs.declared.cutting.Kept.TheVariants.{End, BothEnds}
+use Rattle.pg_fit.specs.declared.cutting_away.Kept.{Kept}
+use Rattle.pg_fit.specs.declared.cutting_away.Kept.TheVariants.{End, BothEnds}
 
 -- ---- at the end
 

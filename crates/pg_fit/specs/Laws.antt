@@ -10,8 +10,8 @@ use Rattle.pg_fit.specs.declared.wrapping.Breaking.TheVariants.{Anywhere, Betwee
 use Rattle.pg_fit.specs.Wrapping.{least_line_width, least_width, wrapped_line, wrapped}
 use Rattle.pg_fit.specs.Cutting.{cut_line, cut_text, cut_away_line, cut_away_text}
 use Rattle.pg_fit.specs.Controls.{is_control, sign_of, visible_text}
-use Rattle.pg_fit.specs.declared.cutting.Kept.{Kept}
-use Rattle.pg_fit.specs.declared.cutting.Kept.TheVariants.{End}
+use Rattle.pg_fit.specs.declared.cutting_away.Kept.{Kept}
+use Rattle.pg_fit.specs.declared.cutting_away.Kept.TheVariants.{End}
 use Rattle.pg_fit.specs.Escapes.{without_escapes}
 
 -- ---- wrapped texts

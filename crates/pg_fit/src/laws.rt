@@ -5,7 +5,7 @@ ghost use Rattle.pg_fit.specs.Laws.{CutTextsFit, VisibleTextsStay, NoControlsAre
 ghost use Rattle.pg_fit.specs.Laws.{CutAwayLinesStand, CutAwayTextsFit, NoEscapesAreLeft, TextsWithoutEscapesStay, LineFeedsStay};
 ghost use Rattle.std.specs.Prelude.{◌≡◌, ◌∷◌, ◌++◌, codes};
 ghost use Rattle.pg_fit.specs.Cutting.{cut_away_text};
-ghost use Rattle.pg_fit.specs.declared.cutting.Kept.TheVariants.{End, BothEnds};
+ghost use Rattle.pg_fit.specs.declared.cutting_away.Kept.TheVariants.{End, BothEnds};
 ghost use Rattle.pg_fit.specs.Escapes.{without_escapes};
 ghost use Rattle.pg_fit.specs.Narrowing.{FillsTheRoom, WithinRanges, IsEvenHanded, LimitsHold, StayNatural, EndAtLeast};
 

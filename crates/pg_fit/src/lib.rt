@@ -4,6 +4,7 @@
 
 mod controls;
 mod cutting;
+mod cutting_away;
 mod escapes;
 mod filling;
 mod laws;
@@ -12,10 +13,12 @@ mod line;
 mod narrowing;
 mod overlaid;
 mod row;
+mod wrapped_row;
 mod wrapping;
 
 pub use crate::controls::{is_visible, sign_of, visible};
-pub use crate::cutting::{cut, cut_front, cut_middle};
+pub use crate::cutting::cut;
+pub use crate::cutting_away::{cut_front, cut_middle};
 pub use crate::escapes::without_escapes;
 pub use crate::laws::{
     cut_texts_fit, ends_by_example, escapes_are_left_out, front_and_middle_cuts_fit,
@@ -24,5 +27,6 @@ pub use crate::laws::{
 pub use crate::least::least_width;
 pub use crate::narrowing::{ColumnRange, narrow};
 pub use crate::overlaid::{OverlaidColumns, OverlaidRecords, OverlaidRows};
-pub use crate::row::{Fitted, fit_row, row_height, wrap_row};
+pub use crate::row::{Fitted, fit_row};
+pub use crate::wrapped_row::{row_height, wrap_row};
 pub use crate::wrapping::{Breaking, wrap};

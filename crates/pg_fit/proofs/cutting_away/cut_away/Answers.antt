@@ -3,8 +3,8 @@ use Rattle.std.specs.String.{string_bytes}
 use Rattle.std.specs.List.{join_with_byte}
 use Rattle.pg_fit.proofs.FilledLines.{fed, join-fed}
 use Rattle.pg_fit.specs.Cutting.{cut_away_line, cut_away_text}
-use Rattle.pg_fit.proofs.cutting.cut_away.Goals as goal
-use Rattle.pg_fit.proofs.cutting.cut_away.Goals.{in-Some+in_ok-line+in_ok-push_str, in_default}
+use Rattle.pg_fit.proofs.cutting_away.cut_away.Goals as goal
+use Rattle.pg_fit.proofs.cutting_away.cut_away.Goals.{in-Some+in_ok-line+in_ok-push_str, in_default}
 
 pub loop-line-init : goal.loop-line-init
 loop-line-init g c =

@@ -3,7 +3,7 @@ use Rattle.std.specs.Vec.Iter.{into_iter_items}
 use Rattle.pg_fit.specs.Rows.{fitted_text, is_kept, is_narrow}
 use Rattle.pg_fit.specs.Wrapping.{wrapped}
 use Rattle.pg_fit.proofs.NarrowedWidths.{IsMade}
-use Rattle.pg_fit.proofs.row.wrap_row.Given as goal
+use Rattle.pg_fit.proofs.wrapped_row.wrap_row.Given as goal
 
 abbrev pub invariant-loop-cell : goal.invariant-loop-cell
 invariant-loop-cell g l =

@@ -3,7 +3,7 @@ use Rattle.std.specs.String.{string_bytes}
 use Rattle.pg_layout.specs.Text.{width_of}
 use Rattle.pg_fit.specs.Cutting.{ending, cut_behind}
 use Rattle.pg_fit.proofs.LawsOfCuts.{away-fits, away-tailed, away-tail}
-use Rattle.pg_fit.proofs.cutting.cut_line.Goals as goal
+use Rattle.pg_fit.proofs.cutting_away.cut_line.Goals as goal
 
 pub returns-then-get_line_width-width : goal.returns-then-get_line_width-width
 returns-then-get_line_width-width g c =

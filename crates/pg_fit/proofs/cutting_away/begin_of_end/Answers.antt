@@ -12,7 +12,7 @@ use Rattle.pg_fit.specs.Cutting.{held_before}
 use Rattle.pg_fit.specs.Inside.{adds_up}
 use Rattle.pg_fit.proofs.FilledLines.{StandFrom, characters-stand, slice_range-all}
 use Rattle.pg_fit.proofs.LawsOfCuts.{stand-last, held_before-more, held_before-end}
-use Rattle.pg_fit.proofs.cutting.begin_of_end.Goals as goal
+use Rattle.pg_fit.proofs.cutting_away.begin_of_end.Goals as goal
 
 pub loop-character-init : goal.loop-character-init
 loop-character-init g c =

@@ -6,7 +6,7 @@ use Rattle.pg_layout.specs.Text.{width_of}
 use Rattle.pg_fit.specs.Cutting.{ending, held_before}
 use Rattle.pg_fit.specs.Inside.{adds_up}
 use Rattle.pg_fit.proofs.FilledLines.{StandFrom}
-use Rattle.pg_fit.proofs.cutting.begin_of_end.Given as goal
+use Rattle.pg_fit.proofs.cutting_away.begin_of_end.Given as goal
 
 abbrev pub invariant-loop-character : goal.invariant-loop-character
 invariant-loop-character g l = record {

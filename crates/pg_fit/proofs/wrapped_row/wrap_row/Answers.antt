@@ -4,7 +4,7 @@ use Rattle.std.proofs.lemmas.List.{nil_from_length}
 use Rattle.pg_fit.specs.Rows.{fitted_text, is_kept, is_narrow}
 use Rattle.pg_fit.specs.Wrapping.{wrapped}
 use Rattle.pg_fit.proofs.NarrowedWidths.{IsMade-first, IsMade-next, IsMade-all, IsMade-none}
-use Rattle.pg_fit.proofs.row.wrap_row.Goals as goal
+use Rattle.pg_fit.proofs.wrapped_row.wrap_row.Goals as goal
 
 pub loop-cell-init : goal.loop-cell-init
 loop-cell-init g c =

@@ -4,9 +4,9 @@ use Rattle.std.specs.Bool.{IsTrue}
 use Rattle.std.proofs.lemmas.Bool.Decides.{nat_tests}
 use Rattle.pg_layout.specs.Text.{width_of}
 use Rattle.pg_fit.specs.Inside.{adds_up}
-use Rattle.pg_fit.specs.declared.cutting.End.{End}
+use Rattle.pg_fit.specs.declared.cutting_away.End.{End}
 use Rattle.pg_fit.proofs.LawsOfCuts.{longer-width}
-use Rattle.pg_fit.proofs.cutting.longer_end.Goals as goal
+use Rattle.pg_fit.proofs.cutting_away.longer_end.Goals as goal
 
 pub returns-in_default-clause-wide : goal.returns-in_default-clause-wide
 returns-in_default-clause-wide g c =
