@@ -27,7 +27,7 @@ use Rattle.std.proofs.lemmas.List.{length-map}
 use Rattle.std.proofs.lemmas.Str.{chars-nil}
 use Rattle.pg_layout.specs.declared.alignment.AlignmentHorizontal.{AlignmentHorizontal}
 use Rattle.pg_config.specs.LineGlyphs.{with_line_glyphs}
-use Rattle.pg_table.specs.OwnRows.{titled}
+use Rattle.pg_table.specs.OwnRows.{spaced_config, titled}
 use Rattle.pg_table.specs.Panels.{with_title, with_inner_line}
 use Rattle.std.specs.List.{list_all, range_with_len}
 use Rattle.unicode_width.proofs.Computing.{unicode_width}
@@ -428,6 +428,19 @@ nothing = record {
 
 pub told-nothing : IsNarrowLook ascii_config
 told-nothing = told-borders default_config nothing ascii refl
+
+-- ---- texts beside each other
+
+fills-spaced : (gap : ℕ) (p : Position) → HasNarrowFills (style_at (spaced_config gap) p)
+unfolding default_config style_at get_padding get_justification with_setting setting_of
+fills-spaced gap p =
+    elim (cases_Bool (0 == p.col)) [
+      | inl first ↦ rw first (record { left = space; right = space; top = space; bottom = space; justification = space })
+      | inr other ↦ rw other (record { left = space; right = space; top = space; bottom = space; justification = space })
+    ]
+
+pub told-spaced : (gap : ℕ) → IsNarrowLook (spaced_config gap)
+told-spaced gap = record { lines = lines-beside default_config nothing.lines (spaced_config gap).padding default_config.alignment_horizontal; fills = fills-spaced gap; margins = nothing.margins }
 
 pub looks-are-narrow : LooksAreNarrow
 looks-are-narrow = record {

@@ -4,8 +4,13 @@ use Rattle.pg_layout.specs.declared.alignment.AlignmentHorizontal.{AlignmentHori
 use Rattle.pg_layout.specs.declared.borders.Borders.{Borders}
 use Rattle.pg_layout.specs.declared.borders.HorizontalLine.{HorizontalLine}
 use Rattle.pg_layout.specs.declared.position.Entity.{Entity}
+use Rattle.pg_layout.specs.declared.position.Entity.TheVariants.{Column, Global}
+use Rattle.pg_layout.specs.declared.sides.Indent.{Indent}
+use Rattle.pg_layout.specs.declared.sides.Sides.{Sides}
 use Rattle.pg_layout.specs.Records.{columns_of, text_at}
+use Rattle.pg_layout.specs.Sides.{spaces}
 use Rattle.pg_layout.specs.Text.{Text, greatest}
+use Rattle.pg_config.specs.Config.{Config, default_config}
 use Rattle.pg_config.specs.Settings.{with_setting}
 use Rattle.pg_table.specs.Panels.{with_span_crossings, with_title}
 use Rattle.pg_table.specs.Natural.{natural_sizes}
@@ -30,6 +35,13 @@ padded_to columns filler row = row ++ replicate (columns - length row) filler
 -- rows that are all as long as the longest of them
 abbrev pub padded : {T : Type 0} → T → List (List T) → List (List T)
 padded filler rows = map (padded_to (greatest (map (λ row. length row) rows)) filler) rows
+
+-- ---- texts beside each other: no borders, and so many spaces left of each text but the first
+
+abbrev pub spaced_config : ℕ → Config
+spaced_config gap =
+    let left : Sides Indent = record (spaces 0 0) { left = record { size = gap; fill = 32 } } in
+    record default_config { padding = with_setting (Column 0) (spaces 0 0) (with_setting Global left default_config.padding) }
 
 -- ---- a table with rows of its own
 

@@ -1,15 +1,17 @@
-//! The rows of a table: those of several lengths, one more, how many there are, and their texts.
+//! The rows of a table: those of several lengths, one of texts beside each other, one more, how many there are, and
+//! their texts.
 
 ghost use Rattle.std.specs.Prelude.{◌≡◌, ◌&&◌, ◌++◌, ◌∷◌, [], ℕ, is_some, length, map, nat_lt, None, Some, Err, IfOk, IfSome, OnErr, OnOk};
 ghost use Rattle.pg_layout.specs.Records.{columns_of, ragged_row, text_at};
 ghost use Rattle.pg_layout.specs.Text.{greatest};
 ghost use Rattle.pg_table.specs.Even.{IsNarrowLook};
-ghost use Rattle.pg_table.specs.OwnRows.{padded, padded_to, texts_of};
+ghost use Rattle.pg_table.specs.OwnRows.{padded, padded_to, spaced_config, texts_of};
 ghost use Rattle.pg_table.specs.Printing.{ascii_config};
 
 use crate::fault::TableFault;
 use crate::table::Table;
-use pg_layout::{PeekableRecords, Position, PushFault, VecRecords};
+use pg_config::SpannedConfig;
+use pg_layout::{Entity, Indent, PeekableRecords, Position, PushFault, Sides, VecRecords};
 use std::alloc::{AllocError, Allocator};
 use std::convert::AsStr;
 
@@ -35,6 +37,27 @@ impl<T: AsStr + Drop + Copy, A: Allocator + Copy> Table<T, A> {
         let columns = longest(&rows);
         pad(&mut rows, columns, filler)?;
         Table::new(alloc, rows)
+    }
+}
+
+impl<T: AsStr + Drop, A: Allocator + Copy> Table<T, A> {
+    /// Texts beside each other, such as printed tables: a table of one row without borders, in
+    /// which each text but the first has so many spaces at its left.
+    ///
+    /// The only error is `Memory`, after which the texts are dropped.
+    ///
+    /// ```text
+    /// let both = Table::beside(alloc, vec![in alloc; left, right]?, 2)?.to_string(alloc)?;
+    /// ```
+    pub fn beside(alloc: A, texts: Vec<T, A>, gap: usize) -> Result<Table<T, A>, TableFault>
+        ensures table { IfOk result (λ table. table ≡ record { rows = texts.items ∷ []; config = spaced_config gap; colors = [] }) }
+        ensures memory { (fault : TableFault) → result ≡ Err fault → fault ≡ TableFault.Memory }
+        ensures narrow { IfOk result (λ table. IsNarrowLook table.config) }
+    {
+        let config = spaced_config(alloc, gap)?;
+        let mut row = Vec::with_capacity(alloc, 1)?;
+        row.push(texts)?;
+        Ok(Table::new(alloc, row)?.with_config(config))
     }
 }
 
@@ -99,6 +122,18 @@ impl<T: AsStr + Drop, A: Allocator> Table<T, A> {
     {
         &self.records
     }
+}
+
+// The settings of texts beside each other: no borders, and so many spaces left of each but the first.
+fn spaced_config<A: Allocator + Copy>(alloc: A, gap: usize) -> Result<SpannedConfig<A>, AllocError>
+    ensures { IfOk result (λ config. config ≡ spaced_config gap) }
+{
+    let mut config = SpannedConfig::new(alloc);
+    let none = Sides::filled(Indent::zero());
+    let left = Indent::spaced(gap);
+    config.set_padding(Entity::Global, Sides { left, ..none })?;
+    config.set_padding(Entity::Column(0), none)?;
+    Ok(config)
 }
 
 // The length of the longest row, or 0 without rows.
