@@ -288,7 +288,7 @@ impl FurtherFault {
             FurtherFault::Rows(fault) => tell_rows(fault, err),
             FurtherFault::Json(fault) => tell_json(fault, request.source.path(), err),
             FurtherFault::Database => writeln!(err, "a database can't be one of several files"),
-            FurtherFault::Header => writeln!(err, "row 0 isn't that of the first file"),
+            FurtherFault::Header => writeln!(err, "row 0 differs from that of the first file"),
             FurtherFault::Length => writeln!(err, "not as many fields as in the first file"),
         }
     }
