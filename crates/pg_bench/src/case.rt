@@ -1,4 +1,4 @@
-//! What follows the lines of a subject, and why a line or a case isn't followed.
+//! The lines of a case, what their words say, and why a line or a case isn't followed.
 
 use crate::tables::refusal::Refusal;
 use pg_layout::RecordsFault;
@@ -9,7 +9,7 @@ use pg_table::TableFault;
 use pg_testing::LineFault;
 use pg_testing::lines::NumberedLine;
 use pg_testing::report::Report;
-use std::alloc::{AllocError, AllocFailed};
+use std::alloc::{AllocError, AllocFailed, Global};
 
 /// What is wrong with a call.
 #[derive(Debug, Clone, Copy, PartialEq, Eq)]
@@ -136,5 +136,46 @@ impl From<StreamFault> for CaseFault {
 impl From<RowsFault<AllocError>> for CaseFault {
     fn from(_fault: RowsFault<AllocError>) -> CaseFault {
         CaseFault::Unfit
+    }
+}
+
+/// The number that a word writes.
+pub(crate) fn number_of(word: &str) -> Result<usize, CaseFault> {
+    word.parse::<usize>().ok().ok_or(CaseFault::Unknown)
+}
+
+/// Takes the numbers that words write, in place of those in the list.
+pub(crate) fn set_numbers(numbers: &mut Vec<usize>, words: &str) -> Result<(), CaseFault> {
+    numbers.clear();
+    for word in words.split(' ') {
+        numbers.push(number_of(word)?)?;
+    }
+    Ok(())
+}
+
+/// Texts of their own.
+pub(crate) fn owned_row(alloc: Global, row: &[&str]) -> Result<Vec<String>, AllocError> {
+    let mut texts = Vec::new(alloc);
+    for text in row {
+        texts.push(String::from_str(alloc, text)?)?;
+    }
+    Ok(texts)
+}
+
+/// Adds a line to the lines of a text, if there are any yet.
+pub(crate) fn push_line(
+    alloc: Global,
+    lines: &mut Option<String>,
+    line: &str,
+) -> Result<(), AllocError> {
+    match lines {
+        Some(lines) => {
+            lines.push('\n')?;
+            lines.push_str(line)
+        }
+        None => {
+            *lines = Some(String::from_str(alloc, line)?);
+            Ok(())
+        }
     }
 }

@@ -29,7 +29,6 @@ mod subject;
 mod tables;
 mod texts;
 mod values;
-mod words;
 
 use crate::case::CaseFault;
 use std::process::ExitCode;

@@ -49,8 +49,7 @@
 //!   prefixes; `lookups 1 2 8`: these of the horizontal, its colours, the vertical and its colours.
 
 use crate::case::{Case, CaseFault, Wrong};
-use crate::settings::answer::Answer;
-use crate::settings::question::write_answers;
+use crate::settings::question::{Answer, write_answers};
 use pg_config::SpannedConfig;
 use pg_layout::{ANSIBuf, Colors, ColorsMap};
 use pg_testing::refusing::Refusing;
@@ -60,7 +59,6 @@ use pg_testing::{Line, LineFault};
 use std::alloc::{AllocError, Global};
 use std::mem;
 
-mod answer;
 mod question;
 
 /// The memory of configurations and of colours.
@@ -208,9 +206,9 @@ impl<'a> SettingsCase<'a> {
             Some(place) => {
                 let mut words = Words::new(place);
                 let pos = words.place();
-                match words.rest() {
-                    Ok(None) => answer.push_color(self.colors.get_color(pos)),
-                    _ => answer.fail(CaseFault::Unknown),
+                match words.end(pos) {
+                    Ok(pos) => answer.push_color(self.colors.get_color(pos)),
+                    Err(fault) => answer.fail(CaseFault::from(fault)),
                 }
             }
             None => write_answers(&*self.config, self.alloc, question, answer),

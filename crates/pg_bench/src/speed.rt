@@ -3,10 +3,9 @@
 //! A line `NAME BYTES CHECKSUM` of the part `speed` builds the table of this name once, and compares how many bytes
 //! its text has and their checksum. With arguments the program builds one table as often as they say.
 
-use crate::case::{Case, CaseFault};
+use crate::case::{Case, CaseFault, number_of};
 use crate::speed::case::{CASES, Case as Built};
 use crate::speed::measure::text_of;
-use crate::words::number_of;
 use pg_testing::Line;
 use pg_testing::report::Report;
 use std::alloc::Global;

@@ -50,9 +50,8 @@
 //!
 //! Behind the sections comes what no section can say, in the modules `given`, `cells` and `values`.
 
-use crate::case::{Case, CaseFault};
+use crate::case::{Case, CaseFault, set_numbers};
 use crate::streams::printing::{Way, check_others};
-use crate::words::set_numbers;
 use pg_config::SpannedConfig;
 use pg_layout::ConstantDimension;
 use pg_testing::report::Report;
@@ -64,11 +63,9 @@ use std::mem;
 mod calls;
 mod cells;
 mod given;
-mod printers;
 mod printing;
 mod values;
 mod watch;
-mod whole;
 
 /// What a step asks for.
 #[derive(Clone, Copy)]

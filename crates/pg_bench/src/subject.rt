@@ -1,6 +1,6 @@
 //! The subjects of the cases, and the part of the input on each.
 
-use crate::case::follow_all;
+use crate::case::{CaseFault, follow_all};
 use crate::scripts::ScriptCase;
 use crate::settings::SettingsCase;
 use crate::speed::SpeedCase;
@@ -14,101 +14,78 @@ use pg_testing::report::Report;
 use std::alloc::Global;
 use std::io::{self, ErrorKind, Read, Write};
 
-/// What the cases of a part are about.
-#[derive(Clone, Copy)]
-enum Subject {
-    /// Single values, which no section can write.
-    Values,
-    /// What configurations return.
-    Settings,
-    /// Texts within a width.
-    Texts,
-    /// Tables that are in memory.
-    Tables,
-    /// Tables whose rows come one at a time.
-    Streams,
-    /// Scripts of `pgshow`.
-    Scripts,
-    /// Tables that are built over and over where they are measured.
-    Speed,
-}
-
-impl Subject {
-    // The subject whose part begins with this line.
-    fn begun_by(line: &str) -> Option<Subject> {
-        match line.strip_prefix("== ")? {
-            "values" => Some(Subject::Values),
-            "settings" => Some(Subject::Settings),
-            "texts" => Some(Subject::Texts),
-            "tables" => Some(Subject::Tables),
-            "streams" => Some(Subject::Streams),
-            "scripts" => Some(Subject::Scripts),
-            "speed" => Some(Subject::Speed),
-            _ => None,
+// Follows the lines of the part on a subject. Returns what its cases are, and what is done to them.
+fn follow(
+    alloc: Global,
+    subject: &str,
+    lines: &[NumberedLine],
+    report: &mut Report,
+) -> (&'static str, &'static str) {
+    match subject {
+        // Single values, which no section can write.
+        "== values" => {
+            check_values(alloc, report);
+            ("facts", "found")
         }
-    }
-
-    // What its cases are, and what is done to them.
-    fn words(self) -> (&'static str, &'static str) {
-        match self {
-            Subject::Values => ("facts", "found"),
-            Subject::Settings => ("sections", "answered"),
-            Subject::Texts => ("texts", "fitted"),
-            Subject::Tables => ("tables", "drawn"),
-            Subject::Streams => ("tables", "printed"),
-            Subject::Scripts => ("scripts", "answered"),
-            Subject::Speed => ("tables", "built"),
+        // What configurations return, whose memory is refused now and then.
+        "== settings" => {
+            let memory = Refusing::only(alloc, u64::MAX);
+            follow_all(SettingsCase::new(alloc, &memory, ""), lines, report);
+            ("sections", "answered")
         }
-    }
-
-    // Follows the lines of its part.
-    fn follow(self, alloc: Global, lines: &[NumberedLine], report: &mut Report) {
-        match self {
-            Subject::Values => check_values(alloc, report),
-            Subject::Settings => follow_settings(alloc, lines, report),
-            Subject::Texts => follow_all(Ok(TextCase::new(alloc)), lines, report),
-            Subject::Tables => follow_all(TableCase::new(alloc, "", 0), lines, report),
-            Subject::Streams => follow_all(StreamCase::new(alloc, "", 0), lines, report),
-            Subject::Scripts => follow_all(Ok(ScriptCase::new(alloc)), lines, report),
-            Subject::Speed => follow_all(Ok(SpeedCase { alloc }), lines, report),
+        // Texts within a width.
+        "== texts" => {
+            follow_all(Ok(TextCase::new(alloc)), lines, report);
+            ("texts", "fitted")
+        }
+        // Tables that are in memory.
+        "== tables" => {
+            follow_all(TableCase::new(alloc, "", 0), lines, report);
+            ("tables", "drawn")
+        }
+        // Tables whose rows come one at a time.
+        "== streams" => {
+            follow_all(StreamCase::new(alloc, "", 0), lines, report);
+            ("tables", "printed")
+        }
+        // Scripts of `pgshow`.
+        "== scripts" => {
+            follow_all(Ok(ScriptCase::new(alloc)), lines, report);
+            ("scripts", "answered")
+        }
+        // Tables that are built over and over where they are measured.
+        "== speed" => {
+            follow_all(Ok(SpeedCase { alloc }), lines, report);
+            ("tables", "built")
+        }
+        _ => {
+            report.refuse(0, subject, CaseFault::Unknown);
+            ("lines", "followed")
         }
     }
 }
 
-// Follows the lines on configurations, whose memory is refused now and then.
-fn follow_settings(alloc: Global, lines: &[NumberedLine], report: &mut Report) {
-    let memory = Refusing::only(alloc, u64::MAX);
-    follow_all(SettingsCase::new(alloc, &memory, ""), lines, report);
+// Follows the lines of a part, the first of which names its subject, and writes what isn't as expected, and how much
+// was compared. Returns whether all is as expected.
+fn check<W: Write>(alloc: Global, part: &[NumberedLine], out: &mut W) -> io::Result<bool> {
+    let Some(((_, subject), lines)) = part.split_first() else {
+        return Ok(true);
+    };
+    let mut report = Report::new(alloc);
+    let words = follow(alloc, subject, lines, &mut report);
+    report.write(out, words)
 }
 
-/// The lines on a subject.
-#[derive(Drop)]
-struct Part {
-    subject: Subject,
-    lines: Vec<NumberedLine>,
-}
-
-impl Part {
-    // Follows its lines, and writes what isn't as expected, and how much was compared. Returns whether all is as
-    // expected.
-    fn check<W: Write>(&self, alloc: Global, out: &mut W) -> io::Result<bool> {
-        let mut report = Report::new(alloc);
-        self.subject.follow(alloc, &self.lines, &mut report);
-        report.write(out, self.subject.words())
-    }
-}
-
-// The parts of a file. A line in front of the first one is an error.
-fn parts_of(alloc: Global, lines: Vec<NumberedLine>) -> io::Result<Vec<Part>> {
-    let mut parts: Vec<Part> = Vec::new(alloc);
-    for (number, line) in lines {
-        match (Subject::begun_by(&line), parts.last_mut()) {
-            (Some(subject), _) => {
-                let lines = Vec::new(alloc);
-                parts.push(Part { subject, lines })?;
-            }
-            (None, Some(part)) => part.lines.push((number, line))?,
-            (None, None) => return Err(io::Error::from(ErrorKind::InvalidData)),
+// The parts of a file, each with the line that names its subject. A line in front of the first one is an error.
+fn parts_of(alloc: Global, lines: Vec<NumberedLine>) -> io::Result<Vec<Vec<NumberedLine>>> {
+    let mut parts = Vec::new(alloc);
+    for line in lines {
+        if line.1.starts_with("== ") {
+            parts.push(Vec::new(alloc))?;
+        }
+        match parts.last_mut() {
+            Some(part) => part.push(line)?,
+            None => return Err(io::Error::from(ErrorKind::InvalidData)),
         }
     }
     Ok(parts)
@@ -124,7 +101,7 @@ pub(crate) fn run<R: Read + Drop, W: Write>(
     let parts = parts_of(alloc, read_lines(alloc, input)?)?;
     let mut is_expected = true;
     for part in &parts {
-        is_expected = part.check(alloc, out)? && is_expected;
+        is_expected = check(alloc, part, out)? && is_expected;
     }
     Ok(is_expected)
 }

@@ -91,11 +91,10 @@
 //!
 //! A way that has none of these is an error, and so is one that has two of them.
 
-use crate::case::{Case, CaseFault};
-use crate::tables::grid::{Grid, with_compact_setting};
+use crate::case::{Case, CaseFault, number_of, owned_row, push_line, set_numbers};
+use crate::tables::drawing::{Grid, with_compact_setting};
 use crate::tables::refusal::Refusal;
 use crate::tables::sizes::Within;
-use crate::words::{number_of, owned_row, push_line, set_numbers};
 use pg_config::{CompactConfig, SpannedConfig};
 use pg_layout::{ColorsMap, ConstantDimension};
 use pg_table::Table;
@@ -106,8 +105,7 @@ use std::alloc::{AllocError, Global};
 use std::mem;
 
 mod builder;
-mod drawing;
-pub(crate) mod grid;
+pub(crate) mod drawing;
 pub(crate) mod refusal;
 mod sizes;
 

@@ -23,13 +23,13 @@
 //! What a call gives is compared, and then the call is made again and again, each time with another request for
 //! memory refused, which it has to say: two answers.
 
-use crate::case::{Case, CaseFault};
-use crate::words::{number_of, push_line};
+use crate::case::{Case, CaseFault, push_line};
 use pg_fit::{Breaking, cut, cut_front, cut_middle, least_width, visible, without_escapes, wrap};
+use pg_testing::ledger::{Outcome, Trial};
 use pg_testing::refusing::Refusing;
 use pg_testing::report::Report;
-use pg_testing::trial::{Outcome, Trial};
-use pg_testing::{Line, texts_of_row};
+use pg_testing::settings::Words;
+use pg_testing::{Line, LineFault, texts_of_row};
 use std::alloc::{AllocError, Allocator, Global};
 
 /// A text, and a call that fits it.
@@ -77,10 +77,10 @@ impl<'a> TextCase<'a> {
 
     // Compares the least width.
     fn ask_least(&self, number: usize, rest: &str, report: &mut Report) -> Result<(), CaseFault> {
-        let (breaking, width) = rest.split_once(' ').ok_or(CaseFault::Unknown)?;
-        let least = least_width(self.text, breaking_of(breaking)?);
-        let place = (number, self.section);
-        report.compare(place, "least_width", least, number_of(width)?);
+        let mut words = Words::new(rest);
+        let least = least_width(self.text, breaking_of(words.word())?);
+        let expected = words.last_number()?;
+        report.compare((number, self.section), "least_width", least, expected);
         Ok(())
     }
 
@@ -160,31 +160,28 @@ enum FitCall<'a> {
 }
 
 /// The modes of breaking by their names.
-pub(crate) fn breaking_of(word: &str) -> Result<Breaking, CaseFault> {
+pub(crate) fn breaking_of(word: &str) -> Result<Breaking, LineFault> {
     match word {
         "anywhere" => Ok(Breaking::Anywhere),
         "words" => Ok(Breaking::BetweenWords),
-        _ => Err(CaseFault::Unknown),
+        _ => Err(LineFault::Unknown),
     }
 }
 
 impl<'a> FitCall<'a> {
     // The call of a line, by its first word and the rest.
-    fn of(word: &str, rest: &'a str) -> Result<FitCall<'a>, CaseFault> {
-        match word {
-            "visible" if rest.is_empty() => return Ok(FitCall::Visible),
-            "without_escapes" if rest.is_empty() => return Ok(FitCall::WithoutEscapes),
-            _ => {}
-        }
-        let (width, how) = rest.split_once(' ').unwrap_or((rest, ""));
-        let width = number_of(width)?;
-        match word {
-            "wrap" => Ok(FitCall::Wrap(width, breaking_of(how)?)),
-            "cut" => Ok(FitCall::Cut(width, how)),
-            "cut_front" => Ok(FitCall::CutFront(width, how)),
-            "cut_middle" => Ok(FitCall::CutMiddle(width, how)),
-            _ => Err(CaseFault::Unknown),
-        }
+    fn of(word: &str, rest: &'a str) -> Result<FitCall<'a>, LineFault> {
+        let mut words = Words::new(rest);
+        let call = match word {
+            "wrap" => FitCall::Wrap(words.number(), breaking_of(words.word())?),
+            "cut" => FitCall::Cut(words.number(), words.text()),
+            "cut_front" => FitCall::CutFront(words.number(), words.text()),
+            "cut_middle" => FitCall::CutMiddle(words.number(), words.text()),
+            "visible" => FitCall::Visible,
+            "without_escapes" => FitCall::WithoutEscapes,
+            _ => return Err(LineFault::Unknown),
+        };
+        words.end(call)
     }
 
     // What becomes of a text.

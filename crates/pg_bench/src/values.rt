@@ -2,7 +2,6 @@
 //! are, what the cases are made with, and what `pgshow` does where no script can say it.
 
 pub(crate) mod calls;
-pub(crate) mod colors;
 pub(crate) mod failing;
 pub(crate) mod places;
 pub(crate) mod records;
@@ -51,7 +50,7 @@ impl<'r> Fact<'r> {
 /// All facts.
 pub(crate) fn check_values(alloc: Global, report: &mut Report) {
     texts::check_texts(report);
-    colors::check_colors(alloc, report);
+    places::check_colors(alloc, report);
     let checked = places::check_places(alloc, report);
     report.take(0, "places", checked);
     let checked = records::check_pushed(alloc, report);

@@ -1,4 +1,4 @@
-//! The lines of a file of cases.
+//! The lines of a file of cases: how they are read, what each of them is, and why one isn't followed.
 //!
 //! In each line `␊` is a line feed, `␍` a carriage return, `␛` an escape and `␣` a space; `⟨ab×3⟩`
 //! is `ababab`, and `⟨9b⟩` the character U+009B. A block of lines is followed once for each of
@@ -11,7 +11,7 @@
 //!   come after those of the value.
 //! - `repeat 1000` repeats the next blocks a thousand times.
 
-use std::alloc::{AllocError, Global};
+use std::alloc::{AllocError, AllocFailed, Global};
 use std::io::{self, Read};
 
 // What a character of a line means.
@@ -26,12 +26,10 @@ fn meant(c: char) -> char {
 }
 
 // Appends what is in brackets: a text, repeated as often as it says, or the character of a number.
-fn push_bracket(text: &mut String, inner: &str) -> Result<(), AllocError> {
+fn push_bracket(alloc: Global, text: &mut String, inner: &str) -> Result<(), AllocError> {
     if let Some((again, count)) = inner.split_once('×') {
-        for _ in 0..count.parse::<usize>().unwrap_or(0) {
-            text.push_str(again)?;
-        }
-        return Ok(());
+        let repeated = again.repeat(alloc, count.parse::<usize>().unwrap_or(0));
+        return repeated.and_then(|again| text.push_str(&again));
     }
     match u32::from_str_radix(inner, 16).ok().and_then(char::from_u32) {
         Some(c) => text.push(c),
@@ -39,40 +37,23 @@ fn push_bracket(text: &mut String, inner: &str) -> Result<(), AllocError> {
     }
 }
 
-// A line with the meaning of its brackets in place of them.
-fn without_brackets(alloc: Global, line: &str) -> Result<String, AllocError> {
+// What a line means.
+fn meaning(alloc: Global, line: &str) -> Result<String, AllocError> {
+    let line: String = line.chars().map(meant).collect(alloc)?;
     let mut text = String::new(alloc);
     for part in line.split('⟩') {
         let (front, inner) = part.split_once('⟨').unwrap_or((part, ""));
         text.push_str(front)?;
-        push_bracket(&mut text, inner)?;
+        push_bracket(alloc, &mut text, inner)?;
     }
     Ok(text)
 }
 
-// What a line means.
-fn meaning(alloc: Global, line: &str) -> Result<String, AllocError> {
-    let text: String = line.chars().map(meant).collect(alloc)?;
-    without_brackets(alloc, &text)
-}
-
-/// The lines of an input to be followed: those of a block once for each value.
-pub fn read_lines<R: Read + Drop>(alloc: Global, input: R) -> io::Result<Vec<NumberedLine>> {
-    let text = io::read_to_string(alloc, input)?;
-    lines_of(alloc, &text).map_err(io::Error::from)
-}
-
-// The lines of a text to be followed.
-fn lines_of(alloc: Global, text: &str) -> Result<Vec<NumberedLine>, AllocError> {
-    let mut lines = Vec::new(alloc);
-    for line in text.lines() {
-        lines.push(meaning(alloc, line)?)?;
-    }
-    unfold(alloc, &lines)
-}
-
 /// The marks in a block for the parts of a value.
 const MARKS: [&str; 6] = ["$1", "$2", "$3", "$4", "$5", "$6"];
+
+/// What separates two values.
+const BETWEEN: &str = "; ";
 
 /// A line to be followed, and its number in the input, counted from 1.
 pub type NumberedLine = (usize, String);
@@ -82,23 +63,13 @@ pub type NumberedLine = (usize, String);
 struct Unfolding<'a> {
     alloc: Global,
     // The values for which a block is repeated.
-    values: Vec<String>,
+    values: String,
     // The lines of the block that is being read, without their stars.
     block: Vec<(usize, &'a str)>,
     lines: Vec<NumberedLine>,
 }
 
 impl<'a> Unfolding<'a> {
-    // No lines. A block comes once.
-    fn new(alloc: Global) -> Result<Unfolding<'a>, AllocError> {
-        Ok(Unfolding {
-            alloc,
-            values: vec![in alloc; String::new(alloc)]?,
-            block: Vec::new(alloc),
-            lines: Vec::new(alloc),
-        })
-    }
-
     // Takes the line of this number. One without a star ends the block before it.
     fn take(&mut self, number: usize, line: &'a str) -> Result<(), AllocError> {
         if let Some(line) = line.strip_prefix("* ") {
@@ -106,80 +77,43 @@ impl<'a> Unfolding<'a> {
         }
         self.end_block()?;
         let (word, rest) = line.split_once(' ').unwrap_or((line, ""));
-        match (word, rest.parse::<usize>()) {
-            ("each", _) => self.set_values(rest),
-            ("cross", _) => self.cross_values(rest),
-            ("repeat", Ok(count)) => self.set_count(count),
-            _ => push_line(self.alloc, &mut self.lines, (number, line), ""),
-        }
-    }
-
-    // Repeats the next blocks for each of these values.
-    fn set_values(&mut self, values: &str) -> Result<(), AllocError> {
-        self.values.clear();
-        for value in values.split("; ") {
-            self.values.push(String::from_str(self.alloc, value)?)?;
-        }
+        let values = match (word, rest.parse::<usize>()) {
+            ("each", _) => String::from_str(self.alloc, rest),
+            ("cross", _) => self.crossed(rest),
+            ("repeat", Ok(count)) => BETWEEN.repeat(self.alloc, count.saturating_sub(1)),
+            _ => return push_filled(self.alloc, &mut self.lines, (number, line), ""),
+        };
+        self.values = values?;
         Ok(())
     }
 
-    // Repeats the next blocks for each value together with each of these.
-    fn cross_values(&mut self, values: &str) -> Result<(), AllocError> {
-        let mut crossed = Vec::new(self.alloc);
-        for value in &self.values {
-            push_crossed(self.alloc, &mut crossed, value, values)?;
+    // Each value together with each of these, whose parts come after its own.
+    fn crossed(&self, others: &str) -> Result<String, AllocError> {
+        let mut crossed = String::new(self.alloc);
+        for value in self.values.split(BETWEEN) {
+            for other in others.split(BETWEEN) {
+                let between = if crossed.is_empty() { "" } else { BETWEEN };
+                let both = format!(in self.alloc; "{between}{value}, {other}")?;
+                crossed.push_str(&both)?;
+            }
         }
-        self.values = crossed;
-        Ok(())
-    }
-
-    // Repeats the next blocks so often.
-    fn set_count(&mut self, count: usize) -> Result<(), AllocError> {
-        self.values.clear();
-        for _ in 0..count {
-            self.values.push(String::new(self.alloc))?;
-        }
-        Ok(())
+        Ok(crossed)
     }
 
     // Adds the lines of the block, once for each value.
     fn end_block(&mut self) -> Result<(), AllocError> {
-        for value in &self.values {
-            push_block(self.alloc, &mut self.lines, &self.block, value)?;
+        for value in self.values.split(BETWEEN) {
+            for line in &self.block {
+                push_filled(self.alloc, &mut self.lines, *line, value)?;
+            }
         }
         self.block.clear();
         Ok(())
     }
 }
 
-// Adds a value together with each of these, whose parts come after its own.
-fn push_crossed(
-    alloc: Global,
-    crossed: &mut Vec<String>,
-    value: &str,
-    others: &str,
-) -> Result<(), AllocError> {
-    for other in others.split("; ") {
-        crossed.push(format!(in alloc; "{value}, {other}")?)?;
-    }
-    Ok(())
-}
-
-// Adds the lines of a block for a value.
-fn push_block(
-    alloc: Global,
-    lines: &mut Vec<NumberedLine>,
-    block: &[(usize, &str)],
-    value: &str,
-) -> Result<(), AllocError> {
-    for line in block {
-        push_line(alloc, lines, *line, value)?;
-    }
-    Ok(())
-}
-
 // Adds a line of a block for a value: `$1` is the first part of the value, and so on.
-fn push_line(
+fn push_filled(
     alloc: Global,
     lines: &mut Vec<NumberedLine>,
     (number, line): (usize, &str),
@@ -189,13 +123,26 @@ fn push_line(
     for (mark, part) in MARKS.iter().zip(value.split(", ")) {
         text = text.replace(alloc, mark, part)?;
     }
-    lines.push((number, text)).map_err(AllocError::from)
+    lines
+        .push((number, meaning(alloc, &text)?))
+        .map_err(AllocError::from)
 }
 
-// The lines of an input to be followed: those of a block once for each value.
-fn unfold(alloc: Global, lines: &[String]) -> Result<Vec<NumberedLine>, AllocError> {
-    let mut unfolding = Unfolding::new(alloc)?;
-    for (i, line) in lines.iter().enumerate() {
+/// The lines of an input to be followed: those of a block once for each value.
+pub fn read_lines<R: Read + Drop>(alloc: Global, input: R) -> io::Result<Vec<NumberedLine>> {
+    let text = io::read_to_string(alloc, input)?;
+    lines_of(alloc, &text).map_err(io::Error::from)
+}
+
+// The lines of a text to be followed: those of a block once for each value.
+fn lines_of(alloc: Global, text: &str) -> Result<Vec<NumberedLine>, AllocError> {
+    let mut unfolding = Unfolding {
+        alloc,
+        values: String::new(alloc),
+        block: Vec::new(alloc),
+        lines: Vec::new(alloc),
+    };
+    for (i, line) in text.lines().enumerate() {
         unfolding.take(i.saturating_add(1), line)?;
     }
     unfolding.end_block()?;
@@ -206,4 +153,68 @@ fn unfold(alloc: Global, lines: &[String]) -> Result<Vec<NumberedLine>, AllocErr
         lines,
     } = unfolding;
     Ok(lines)
+}
+
+/// A line of a file of sections, without its mark.
+#[derive(Clone, Copy)]
+pub enum Line<'a> {
+    /// It is empty, or begins with `#`.
+    Comment,
+    /// A section of this name begins, as `: name` says.
+    Section(&'a str),
+    /// Another way of doing the same begins, as `or` says.
+    Way,
+    /// A row of texts, as `|a|b|`, here without its first bar.
+    Row(&'a str),
+    /// Any other line.
+    Words(&'a str),
+}
+
+impl<'a> Line<'a> {
+    /// What a line says.
+    pub fn of(line: &'a str) -> Line<'a> {
+        if line.is_empty() || line.starts_with('#') {
+            return Line::Comment;
+        }
+        if line == "or" {
+            return Line::Way;
+        }
+        if let Some(name) = line.strip_prefix(": ") {
+            return Line::Section(name);
+        }
+        match line.strip_prefix('|') {
+            Some(row) => Line::Row(row),
+            None => Line::Words(line),
+        }
+    }
+}
+
+/// The texts of a row, which has a bar after each of them.
+pub fn texts_of_row(alloc: Global, row: &str) -> Result<Vec<&str>, LineFault> {
+    if row.is_empty() {
+        return Ok(Vec::new(alloc));
+    }
+    let row = row.strip_suffix('|').ok_or(LineFault::Unknown)?;
+    row.split('|').collect(alloc).map_err(LineFault::from)
+}
+
+/// Why a line isn't followed.
+#[derive(Debug, Clone, Copy, PartialEq, Eq)]
+pub enum LineFault {
+    /// It has too few, too many or unknown words.
+    Unknown,
+    /// Out of memory.
+    Memory,
+}
+
+impl From<AllocError> for LineFault {
+    fn from(_error: AllocError) -> LineFault {
+        LineFault::Memory
+    }
+}
+
+impl<T: Drop> From<AllocFailed<T>> for LineFault {
+    fn from(_error: AllocFailed<T>) -> LineFault {
+        LineFault::Memory
+    }
 }

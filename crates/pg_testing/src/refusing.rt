@@ -38,7 +38,8 @@ impl<B: Allocator> Refusing<B> {
         self.ledger.set(Ledger::new(Rule::Only(k)));
     }
 
-    fn by_rule(inner: B, rule: Rule) -> Refusing<B> {
+    /// Refuses the requests that fail by a rule.
+    pub fn by_rule(inner: B, rule: Rule) -> Refusing<B> {
         Refusing {
             inner,
             ledger: Cell::new(Ledger::new(rule)),

@@ -73,20 +73,17 @@ impl Report {
     /// `drawn`. Returns whether nothing was wrong.
     pub fn write<W: Write>(&self, out: &mut W, (tables, drawn): (&str, &str)) -> io::Result<bool> {
         out.write_all(self.lines.as_bytes())?;
-        let (cases, answers, faults) = (self.cases, self.answers, self.faults);
-        let counted = if faults == 0 {
-            writeln!(
-                out,
-                "{cases} {tables} are {drawn} as expected, by {answers} answers"
-            )
+        let (cases, answers) = (self.cases, self.answers);
+        let how = if self.faults == 0 {
+            "as expected"
         } else {
-            writeln!(
-                out,
-                "{faults} faults in {cases} {tables}, among {answers} answers"
-            )
+            "with faults"
         };
-        counted?;
+        writeln!(
+            out,
+            "{cases} {tables} are {drawn} {how}, by {answers} answers"
+        )?;
         out.flush()?;
-        Ok(faults == 0)
+        Ok(self.faults == 0)
     }
 }

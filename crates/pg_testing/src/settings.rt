@@ -26,18 +26,15 @@
 //!   first column of the line, and the characters.
 
 mod borders;
-mod cells;
-mod looks;
+mod setting;
 mod words;
 
-use crate::line::LineFault;
-pub use crate::settings::borders::NamedPlaces;
-use crate::settings::borders::{set_line, with_colors};
-pub use crate::settings::cells::set_cell_color;
-pub use crate::settings::looks::header_line_named;
+use crate::lines::LineFault;
+pub use crate::settings::borders::{PlaceValue, borders_at, header_line_named};
+use crate::settings::setting::Setting;
 pub use crate::settings::words::Words;
 use pg_config::SpannedConfig;
-use pg_layout::Borders;
+use pg_layout::ColorsMap;
 use std::alloc::Allocator;
 
 /// Applies the setting of a line, as `padding row 1 2 0 0 0`.
@@ -49,18 +46,8 @@ pub fn apply<A: Allocator + Copy>(
     alloc: A,
     line: &str,
 ) -> Result<(), LineFault> {
-    let mut words = Words::new(line);
-    let name = words.word();
-    match name {
-        "borders" => config.set_borders(words.last_borders()?),
-        "borders_missing" => config.set_borders_missing(words.last_glyph()?),
-        "borders_color" => config.set_borders_color(with_colors(Borders::empty(), alloc, words)?),
-        "margin" => config.set_margin(words.last_indents()?),
-        "margin_offset" => config.set_margin_offset(words.last_offsets()?),
-        "margin_color" => config.set_margin_color(words.last_colors(alloc)?),
-        _ => return set_line(config, alloc, name, words),
-    }
-    Ok(())
+    let setting = Setting::of(alloc, line)?;
+    setting.apply(config, alloc).map_err(LineFault::from)
 }
 
 /// Applies the settings of these lines, one after the other, up to the first that is an error.
@@ -73,4 +60,17 @@ pub fn apply_all<A: Allocator + Copy>(
         apply(config, alloc, line)?;
     }
     Ok(())
+}
+
+/// Sets the colour of a cell: its place and what comes before and after its text, as `0 1
+/// <red>|</red>`. The colour can't be none.
+pub fn set_cell_color<A: Allocator + Copy>(
+    colors: &mut ColorsMap<A>,
+    alloc: A,
+    text: &str,
+) -> Result<(), LineFault> {
+    let mut words = Words::new(text);
+    let pos = words.place();
+    let color = words.color_there(alloc)?;
+    colors.set(pos, words.end(color)?).map_err(LineFault::from)
 }

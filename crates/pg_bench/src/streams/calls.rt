@@ -1,9 +1,9 @@
 //! Calls of streams: of those that hold a row, and of those that show each row at once.
 
+use crate::case::owned_row;
 use crate::streams::printing::Way;
 use crate::streams::watch::{Buffer, Memory, Watch};
 use crate::streams::{Step, StepKind, StreamCase};
-use crate::words::owned_row;
 use pg_layout::{ConstantDimension, NoColors};
 use pg_stream::{LiveStream, RowStream, RowsFault, SizedStream, StreamFault};
 use std::alloc::{AllocError, Global};

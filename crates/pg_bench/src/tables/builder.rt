@@ -7,10 +7,10 @@ use pg_config::SpannedConfig;
 use pg_layout::{AlignmentHorizontal, Borders, ColorsMap, HorizontalLine, Indent, Sides};
 use pg_table::{Table, TableFault};
 use pg_testing::LineFault;
+use pg_testing::ledger::{Outcome, Trial};
 use pg_testing::refusing::Refusing;
 use pg_testing::report::Report;
 use pg_testing::settings::{Words, header_line_named};
-use pg_testing::trial::{Outcome, Trial};
 use std::alloc::{Allocator, Global};
 use std::convert::AsStr;
 use std::mem;
@@ -113,21 +113,24 @@ enum BuilderCall<'t> {
 impl<'t> BuilderCall<'t> {
     // What the call of this name sets, by what follows the name.
     fn of(name: &str, rest: &'t str) -> Result<BuilderCall<'t>, LineFault> {
-        let words = Words::new(rest);
-        match name {
-            "" if rest.is_empty() => Ok(BuilderCall::Nothing),
-            "with_borders" => Ok(BuilderCall::Borders(words.last_borders()?)),
-            "with_padding" => Ok(BuilderCall::Padding(words.last_indents()?)),
-            "with_alignment" => Ok(BuilderCall::Alignment(words.last_horizontal()?)),
-            "with_header_line" | "set_header_line" => Ok(BuilderCall::HeaderLine(line_of(rest)?)),
-            "with_span_crossings" | "set_span_crossings" => {
-                Ok(BuilderCall::SpanCrossings(words.last_borders()?))
+        let mut words = Words::new(rest);
+        let call = match name {
+            "with_borders" => BuilderCall::Borders(words.borders()),
+            "with_padding" => BuilderCall::Padding(words.indents()),
+            "with_alignment" => BuilderCall::Alignment(words.horizontal()),
+            "with_header_line" | "set_header_line" => {
+                BuilderCall::HeaderLine(line_of(words.text())?)
             }
-            "with_title" | "set_title" => Ok(BuilderCall::Title(title_of(words)?)),
-            "with_config" if rest.is_empty() => Ok(BuilderCall::Config),
-            "with_colors" if rest.is_empty() => Ok(BuilderCall::Colors),
-            _ => Err(LineFault::Unknown),
-        }
+            "with_span_crossings" | "set_span_crossings" => {
+                BuilderCall::SpanCrossings(words.borders())
+            }
+            "with_title" | "set_title" => BuilderCall::Title(title_of(&mut words)),
+            "" => BuilderCall::Nothing,
+            "with_config" => BuilderCall::Config,
+            "with_colors" => BuilderCall::Colors,
+            _ => return Err(LineFault::Unknown),
+        };
+        words.end(call)
     }
 
     // Makes the call by value. Settings and colours aren't set.
@@ -168,11 +171,12 @@ impl<'t> BuilderCall<'t> {
 }
 
 // The title of a row line, a side and all that is left: of nothing more it has no characters.
-fn title_of<'t>(mut words: Words<'t>) -> Result<Title<'t>, LineFault> {
-    let row = words.number();
-    let side = Words::new(words.word()).last_horizontal()?;
-    let text = words.rest()?.unwrap_or("");
-    Ok(Title { row, side, text })
+fn title_of<'t>(words: &mut Words<'t>) -> Title<'t> {
+    Title {
+        row: words.number(),
+        side: words.horizontal(),
+        text: words.text(),
+    }
 }
 
 // The line below a header of this name, or of this glyph, with crossings and ends as they were.

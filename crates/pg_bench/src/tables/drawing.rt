@@ -1,13 +1,16 @@
-//! How a table is drawn, and by which calls of what draws it.
+//! How a table is drawn, by which calls of what draws it, and the grids that draw tables of given sizes.
 
 use crate::case::CaseFault;
 use crate::tables::TableCase;
-use crate::tables::grid::{Grid, GridCall, SPANNED, SizedTable};
 use crate::tables::refusal::Refusal;
-use pg_grid::{Misfit, PrintFault, WholePrinter};
-use pg_layout::{ColorsMap, VecRecords};
+use pg_config::{CompactConfig, SpannedConfig};
+use pg_grid::{CompactGrid, IterGrid, Misfit, PeekableGrid, PrintFault, WholePrinter};
+use pg_layout::{ANSIStr, Colors, ColorsMap, ConstantDimension, Sides, VecRecords};
 use pg_table::{Table, TableFault};
+use pg_testing::LineFault;
 use pg_testing::report::Report;
+use pg_testing::settings::{Words, borders_at};
+use pg_testing::unhinted::Unhinted;
 use std::alloc::{AllocError, Allocator};
 
 /// What a buffer holds before.
@@ -270,4 +273,104 @@ impl TableCase<'_> {
         self.draw_refused(drawer, picture, report);
         Ok(())
     }
+}
+
+/// The grids that draw a table where no line names one.
+pub(crate) const SPANNED: [Grid; 3] = [Grid::Peekable, Grid::Hinted, Grid::Unhinted];
+
+/// A grid that draws a table.
+#[derive(Clone, Copy)]
+pub(crate) enum Grid {
+    /// The looked-up grid.
+    Peekable,
+    /// The streaming grid, which knows how many rows there are.
+    Hinted,
+    /// The streaming grid, which doesn't know it.
+    Unhinted,
+    /// The compact grid.
+    Compact,
+}
+
+impl Grid {
+    /// The grid of this name.
+    pub(crate) fn named(name: &str) -> Result<Grid, CaseFault> {
+        match name {
+            "peekable" => Ok(Grid::Peekable),
+            "hinted" => Ok(Grid::Hinted),
+            "unhinted" => Ok(Grid::Unhinted),
+            "compact" => Ok(Grid::Compact),
+            _ => Err(CaseFault::Unknown),
+        }
+    }
+}
+
+/// A call that every grid has.
+pub(crate) trait GridCall {
+    /// What it returns.
+    type Answer;
+
+    /// Makes the call.
+    fn made<P: WholePrinter>(self, grid: P) -> Self::Answer
+        requires readable { P.is_readable grid };
+}
+
+/// A table of given sizes, and the settings of the compact grid beside those of the others.
+pub(crate) struct SizedTable<'t, C> {
+    pub(crate) records: &'t VecRecords<String>,
+    pub(crate) config: &'t SpannedConfig,
+    pub(crate) compact: &'t CompactConfig,
+    pub(crate) dimension: &'t ConstantDimension,
+    pub(crate) colors: &'t C,
+}
+
+impl<C: Colors> SizedTable<'_, C> {
+    /// Makes a call of a grid, with `memory` for its open cells.
+    pub(crate) fn by<A: Allocator, G: GridCall>(self, grid: Grid, memory: A, call: G) -> G::Answer {
+        let SizedTable {
+            records,
+            config,
+            compact,
+            dimension,
+            colors,
+        } = self;
+        match grid {
+            Grid::Peekable => call.made(&PeekableGrid::new(records, config, dimension, colors)),
+            Grid::Hinted => {
+                let grid = IterGrid::new(records, config, dimension, colors);
+                call.made(grid.with_memory(memory))
+            }
+            Grid::Unhinted => {
+                let grid = IterGrid::new(Unhinted::new(records), config, dimension, colors);
+                call.made(grid.with_memory(memory))
+            }
+            Grid::Compact => call.made(CompactGrid::new(records, compact, dimension, colors)),
+        }
+    }
+}
+
+/// The configuration with the setting of a line, as `margin 1 1 0 0`.
+pub(crate) fn with_compact_setting(
+    config: CompactConfig,
+    line: &str,
+) -> Result<CompactConfig, LineFault> {
+    let mut words = Words::new(line);
+    let config = match words.word() {
+        "borders" => config.set_borders(words.borders()),
+        "borders_color" => config.set_borders_color(borders_at((), &mut words)),
+        "margin" => config.set_margin(words.indents()),
+        "margin_color" => config.set_margin_color(colors_of(&mut words)),
+        "padding" => config.set_padding(words.indents()),
+        "padding_color" => config.set_padding_color(colors_of(&mut words)),
+        "alignment_horizontal" => config.set_alignment_horizontal(words.horizontal()),
+        _ => return Err(LineFault::Unknown),
+    };
+    words.end(config)
+}
+
+// The colours of the four sides. Each of them is there.
+fn colors_of(words: &mut Words<'_>) -> Sides<ANSIStr<'static>> {
+    let left = words.value(()).unwrap_or_default();
+    let right = words.value(()).unwrap_or_default();
+    let top = words.value(()).unwrap_or_default();
+    Sides::new(left, right, top, words.value(()).unwrap_or_default())
 }

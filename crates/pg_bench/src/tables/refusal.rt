@@ -1,14 +1,15 @@
 //! Tables that aren't drawn, and why; tables that are drawn while memory is refused, and those that no memory holds.
 
-use crate::case::{CaseFault, Mismatch, Wrong};
+use crate::case::{Mismatch, Wrong};
 use crate::tables::TableCase;
 use crate::tables::drawing::{Drawer, OLD};
 use pg_grid::{Misfit, PrintFault};
 use pg_table::TableFault;
+use pg_testing::LineFault;
+use pg_testing::ledger::{Outcome, Trial};
 use pg_testing::refusing::Refusing;
 use pg_testing::report::Report;
 use pg_testing::settings::Words;
-use pg_testing::trial::{Outcome, Trial};
 use std::alloc::{AllocError, Global};
 
 /// What a buffer holds before, which is compared byte by byte.
@@ -31,22 +32,17 @@ pub(crate) enum Refusal {
 
 impl Refusal {
     /// The refusal that a line names, as `room 0 1`.
-    pub(crate) fn named(line: &str) -> Result<Refusal, CaseFault> {
-        match line {
-            "spans" => return Ok(Refusal::Spans),
-            "totals" => return Ok(Refusal::Totals),
-            "memory" => return Ok(Refusal::Memory),
-            _ => {}
-        }
+    pub(crate) fn named(line: &str) -> Result<Refusal, LineFault> {
         let mut words = Words::new(line);
-        match words.word() {
-            "ragged" => Ok(Refusal::Ragged(words.last_number()?)),
-            "room" => {
-                let row = words.number();
-                Ok(Refusal::Room(row, words.last_number()?))
-            }
-            _ => Err(CaseFault::Unknown),
-        }
+        let refusal = match words.word() {
+            "spans" => Refusal::Spans,
+            "totals" => Refusal::Totals,
+            "memory" => Refusal::Memory,
+            "ragged" => Refusal::Ragged(words.number()),
+            "room" => Refusal::Room(words.number(), words.number()),
+            _ => return Err(LineFault::Unknown),
+        };
+        words.end(refusal)
     }
 }
 

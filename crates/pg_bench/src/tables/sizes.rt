@@ -5,11 +5,12 @@ use crate::tables::TableCase;
 use crate::tables::drawing::Builder;
 use crate::tables::refusal::Refusal;
 use crate::texts::breaking_of;
-use crate::words::number_of;
 use pg_layout::{ColorsMap, ConstantDimension, VecRecords};
 use pg_table::{FittedTable, NaturalTable, Overflow, TableFault};
+use pg_testing::LineFault;
 use pg_testing::refusing::Refusing;
 use pg_testing::report::Report;
+use pg_testing::settings::Words;
 use std::alloc::{AllocError, Allocator, Global};
 
 /// What a line `natural` says where sizes pass.
@@ -104,35 +105,27 @@ pub(crate) struct Within<'a> {
 
 impl<'a> Within<'a> {
     /// What a line says, as `44 words`.
-    pub(crate) fn of(line: &'a str) -> Result<Within<'a>, CaseFault> {
-        let Some((width, how)) = line.split_once(' ') else {
-            return Err(CaseFault::Unknown);
+    pub(crate) fn of(line: &'a str) -> Result<Within<'a>, LineFault> {
+        let mut words = Words::new(line);
+        let width = limit_of(words.word())?;
+        let how = match words.word() {
+            "cut" => Overflow::Cut(words.text()),
+            word => Overflow::Wrap(breaking_of(word)?),
         };
-        Ok(Within {
-            width: limit_of(width)?,
-            how: overflow_of(how)?,
-        })
+        words.end(Within { width, how })
     }
 }
 
 // How many columns a word says, or that any number will do.
-fn limit_of(word: &str) -> Result<usize, CaseFault> {
+fn limit_of(word: &str) -> Result<usize, LineFault> {
     if word == ANY {
         return Ok(usize::MAX);
     }
-    number_of(word)
-}
-
-// What becomes of texts that are too wide.
-fn overflow_of(words: &str) -> Result<Overflow<'_>, CaseFault> {
-    match words.strip_prefix("cut ") {
-        Some(tail) => Ok(Overflow::Cut(tail)),
-        None => Ok(Overflow::Wrap(breaking_of(words)?)),
-    }
+    Words::new(word).last_number()
 }
 
 // The limits of columns that words write.
-fn limits_of(alloc: Global, words: &str) -> Result<Vec<usize>, CaseFault> {
+fn limits_of(alloc: Global, words: &str) -> Result<Vec<usize>, LineFault> {
     let mut limits = Vec::new(alloc);
     for word in words.split(' ') {
         limits.push(limit_of(word)?)?;

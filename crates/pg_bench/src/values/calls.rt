@@ -4,9 +4,9 @@ use crate::case::CaseFault;
 use crate::values::Fact;
 use pg_layout::{AlignmentHorizontal, ExactRecords, Position};
 use pg_table::{Overflow, Table, TableFault};
+use pg_testing::ledger::{Outcome, Trial};
 use pg_testing::refusing::Refusing;
 use pg_testing::report::Report;
-use pg_testing::trial::{Outcome, Trial};
 use std::alloc::{Allocator, Global};
 
 /// Calls that change a table.

@@ -1,8 +1,12 @@
-//! Values by key, in the order of their keys.
+//! Values by key, in the order of their keys, and colours, also those of cells: which of several counts, which are
+//! the same, and what they need memory for.
 
 use crate::case::CaseFault;
 use crate::values::Fact;
-use pg_layout::{Places, Position};
+use pg_layout::{
+    ANSIBuf, ANSIFmt, ANSIStr, Colors, ColorsMap, NoColors, Places, Position, same_color,
+};
+use pg_testing::refusing::Refusing;
 use pg_testing::report::Report;
 use std::alloc::Global;
 
@@ -77,4 +81,112 @@ pub(crate) fn check_places(alloc: Global, report: &mut Report) -> Result<(), Cas
     check_exchanged(&mut fact, &mut places)?;
     check_removed(&mut fact, &mut places);
     Ok(())
+}
+
+// A colour with this prefix.
+fn color(alloc: Global, prefix: &str) -> Result<ANSIBuf, CaseFault> {
+    ANSIBuf::new(alloc, prefix, "</>").map_err(CaseFault::from)
+}
+
+// The prefix of a colour, if there is one.
+fn prefix(color: Option<&ANSIBuf>) -> Option<&str> {
+    Some(color?.prefix())
+}
+
+// Whether a colour has these two texts.
+fn has_texts<C: ANSIFmt>(color: &C, prefix: &str, suffix: &str) -> bool {
+    color.prefix() == prefix && color.suffix() == suffix
+}
+
+fn the_latest_color_of_a_place_counts(alloc: Global, report: &mut Report) -> Result<(), CaseFault> {
+    let mut fact = Fact::new(report, "the latest color of a place counts");
+    let mut colors = ColorsMap::new(alloc);
+    fact.holds(colors.is_empty() && (&NoColors).is_empty());
+    for name in ["<a>", "<b>"] {
+        colors.set(Position::new(1, 2), color(alloc, name)?)?;
+    }
+    fact.holds(!(&colors).is_empty());
+    fact.same(
+        prefix((&colors).get_color(Position::from((1, 2)))),
+        Some("<b>"),
+    );
+    fact.same(prefix(colors.get_color(Position::new(2, 1))), None);
+    fact.same(prefix(NoColors.get_color(Position::new(1, 2))), None);
+    Ok(())
+}
+
+fn lent_colors_are_equal_by_both_texts(report: &mut Report) {
+    let mut fact = Fact::new(report, "lent colors are equal by both texts");
+    let red = ANSIStr::new("<r>", "</r>");
+    fact.holds(ANSIStr::default().is_empty() && !ANSIStr::new("", "</r>").is_empty());
+    fact.holds(red == ANSIStr::new("<r>", "</r>") && red != ANSIStr::new("<r>", "</>"));
+}
+
+fn colors_are_equal_by_both_texts(alloc: Global, report: &mut Report) -> Result<(), CaseFault> {
+    let mut fact = Fact::new(report, "colors are equal by both texts");
+    let owned = ANSIBuf::new(alloc, "<r>", "</r>")?;
+    fact.holds(owned == ANSIBuf::new(alloc, "<r>", "</r>")?);
+    fact.holds(owned != ANSIBuf::new(alloc, "<b>", "</r>")? && !owned.is_empty());
+    fact.holds(has_texts(&owned, "<r>", "</r>"));
+    Ok(())
+}
+
+fn colors_of_two_types_are_the_same_by_both_texts(
+    alloc: Global,
+    report: &mut Report,
+) -> Result<(), CaseFault> {
+    let mut fact = Fact::new(report, "colors of two types are the same by both texts");
+    let red = ANSIStr::new("<r>", "</r>");
+    let owned = ANSIBuf::new(alloc, "<r>", "</r>")?;
+    fact.holds(same_color(Some(&owned), Some(&red)));
+    fact.holds(!same_color(Some(&owned), Some(&ANSIStr::default())));
+    fact.holds(!same_color::<ANSIBuf, ANSIStr<'_>>(None, Some(&red)));
+    fact.holds(same_color::<ANSIBuf, ANSIStr<'_>>(None, None));
+    Ok(())
+}
+
+fn a_color_needs_memory_for_both_texts(alloc: Global, report: &mut Report) {
+    let mut fact = Fact::new(report, "a color needs memory for both texts");
+    for k in 0..3 {
+        for memory in [Refusing::only(alloc, k), Refusing::from_on(alloc, k)] {
+            let made = ANSIBuf::new(&memory, "<r>", "</r>");
+            let is_whole = matches!(&made, Ok(color) if has_texts(color, "<r>", "</r>"));
+            fact.same((made.is_ok(), is_whole), (k >= 2, k >= 2));
+            fact.same(memory.has_refused(), k < 2);
+        }
+    }
+}
+
+fn a_color_is_made_of_any_two_texts(alloc: Global, report: &mut Report) -> Result<(), CaseFault> {
+    let mut fact = Fact::new(report, "a color is made of any two texts");
+    let long =
+        "a text of more bytes than the short ones together, so that it is a piece of its own";
+    for (prefix, suffix, is_empty) in [
+        ("", "", true),
+        ("<r>", "", false),
+        ("", "</r>", false),
+        ("\u{1b}[31m", "\u{1b}[0m", false),
+        ("日", "本", false),
+        (long, "</r>", false),
+        ("<r>", long, false),
+    ] {
+        let owned = ANSIBuf::new(alloc, prefix, suffix)?;
+        fact.holds(has_texts(&owned, prefix, suffix));
+        fact.same(owned.is_empty(), is_empty);
+    }
+    Ok(())
+}
+
+/// All facts of this file.
+pub(crate) fn check_colors(alloc: Global, report: &mut Report) {
+    let checked = the_latest_color_of_a_place_counts(alloc, report);
+    report.take(0, "colors of places", checked);
+    lent_colors_are_equal_by_both_texts(report);
+    let checked = colors_are_equal_by_both_texts(alloc, report);
+    report.take(0, "equal colors", checked);
+    let checked = colors_of_two_types_are_the_same_by_both_texts(alloc, report);
+    report.take(0, "colors of two types", checked);
+    a_color_needs_memory_for_both_texts(alloc, report);
+    let checked = a_color_is_made_of_any_two_texts(alloc, report);
+    report.take(0, "colors of any texts", checked);
 }

@@ -1,17 +1,15 @@
 //! Scripts that are read and printed while memory is refused, and how runs of `pgshow` end where the arguments, the
 //! script or its reader are wrong, or where the line of an error can't be written.
 
-use crate::case::CaseFault;
+use crate::case::{CaseFault, owned_row};
 use crate::values::Fact;
-use crate::words::owned_row;
 use pg_show::{
     Ending, Fault, Mode, PrintFault, Script, ScriptFault, parse_script, print_script, run,
 };
-use pg_testing::ledger::Rule;
+use pg_testing::ledger::{Outcome, Rule, Trial};
 use pg_testing::refusing::Refusing;
 use pg_testing::report::Report;
 use pg_testing::streams::{EndlessReader, FailingWriter, PIECE};
-use pg_testing::trial::{Outcome, Trial};
 use std::alloc::{AllocError, Global};
 use std::io::{self, ErrorKind, Read};
 

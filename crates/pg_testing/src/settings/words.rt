@@ -1,7 +1,7 @@
 //! The words of a line, and what they mean.
 
-use crate::line::LineFault;
-use crate::settings::borders::borders_of;
+use crate::lines::LineFault;
+use crate::settings::borders::{PlaceValue, borders_at, borders_named};
 use pg_layout::{
     ANSIBuf, AlignmentHorizontal, AlignmentVertical, Borders, Entity, Indent, Offset, Position,
     Sides,
@@ -10,8 +10,8 @@ use std::alloc::Allocator;
 
 /// What is left of a line that is read word by word. Single spaces separate words.
 ///
-/// A call that reads the next words returns some value even if one is missing or wrong. A call that reads the end of
-/// a line takes it by value, and returns what was wrong with any word of the line: a word left after it is an error.
+/// A call that reads the next words returns some value even if one is missing or wrong. [`end`](Words::end) returns
+/// what was wrong with any word of the line: a word that is left is an error, too.
 #[derive(Clone, Copy)]
 pub struct Words<'a> {
     // `None` after the last word.
@@ -21,10 +21,10 @@ pub struct Words<'a> {
 }
 
 impl<'a> Words<'a> {
-    /// All words of a line.
+    /// All words of a line. An empty one has none.
     pub fn new(line: &'a str) -> Words<'a> {
         Words {
-            rest: Some(line),
+            rest: (!line.is_empty()).then_some(line),
             fault: None,
         }
     }
@@ -47,21 +47,25 @@ impl<'a> Words<'a> {
         }
     }
 
-    /// What is left of the line, if a word is.
-    pub fn rest(self) -> Result<Option<&'a str>, LineFault> {
-        match self.fault {
-            Some(fault) => Err(fault),
-            None => Ok(self.rest),
-        }
+    /// All words that are left, or an empty text.
+    pub fn text(&mut self) -> &'a str {
+        let text = self.rest.unwrap_or("");
+        self.rest = None;
+        text
     }
 
-    // What was read of the whole line.
-    fn end<T: Drop>(self, read: T) -> Result<T, LineFault> {
+    /// What was read of the whole line.
+    pub fn end<T: Drop>(self, read: T) -> Result<T, LineFault> {
         match (self.fault, self.rest) {
             (None, None) => Ok(read),
             (Some(fault), _) => Err(fault),
             (None, Some(_)) => Err(LineFault::Unknown),
         }
+    }
+
+    /// A word that was read has this fault.
+    pub(crate) fn note(&mut self, fault: LineFault) {
+        self.fault = Some(fault);
     }
 
     // What a word means, or something else if it is wrong.
@@ -75,148 +79,163 @@ impl<'a> Words<'a> {
         }
     }
 
-    /// The last word.
-    pub fn last(mut self) -> Result<&'a str, LineFault> {
-        let word = self.word();
-        self.end(word)
+    // Something in place of what an unknown word means.
+    fn unknown<T: Drop>(&mut self, other: T) -> T {
+        self.fault = Some(LineFault::Unknown);
+        other
+    }
+
+    /// The number that a word of the line means.
+    pub(crate) fn number_in(&mut self, word: &str) -> usize {
+        match word.parse::<usize>() {
+            Ok(number) => number,
+            Err(_) => self.unknown(0),
+        }
     }
 
     /// The next word as a number.
     pub fn number(&mut self) -> usize {
-        let meant = number_of(self.word());
-        self.taken(meant, 0)
+        let word = self.word();
+        self.number_in(word)
+    }
+
+    /// The next two words as numbers.
+    pub(crate) fn numbers(&mut self) -> (usize, usize) {
+        let first = self.number();
+        (first, self.number())
     }
 
     /// The last word as a number.
-    pub fn last_number(self) -> Result<usize, LineFault> {
-        self.last().and_then(number_of)
+    pub fn last_number(mut self) -> Result<usize, LineFault> {
+        let number = self.number();
+        self.end(number)
     }
 
     /// The next two words as a row and a column.
     pub fn place(&mut self) -> Position {
-        let row = self.number();
-        Position::new(row, self.number())
+        Position::from(self.numbers())
     }
 
     /// The next words as all cells, a row, a column or a cell.
-    pub fn entity(&mut self) -> Entity {
+    pub(crate) fn entity(&mut self) -> Entity {
         match self.word() {
             "all" => Entity::Global,
             "row" => Entity::Row(self.number()),
             "col" => Entity::Column(self.number()),
             "cell" => Entity::from(self.place()),
-            _ => self.taken(Err(LineFault::Unknown), Entity::Global),
+            _ => self.unknown(Entity::Global),
         }
     }
 
     /// The next two words as a place that is counted from the start or from the end.
-    pub fn offset(&mut self) -> Offset {
+    pub(crate) fn offset(&mut self) -> Offset {
         match self.word() {
             "start" => Offset::Start(self.number()),
             "end" => Offset::End(self.number()),
-            _ => self.taken(Err(LineFault::Unknown), Offset::Start(0)),
+            _ => self.unknown(Offset::Start(0)),
         }
     }
 
-    /// The last eight words as such places, one at each side.
-    pub fn last_offsets(mut self) -> Result<Sides<Offset>, LineFault> {
+    /// The next words as a place, and as that of a single glyph there.
+    pub(crate) fn glyph_place(&mut self) -> (Position, Offset) {
+        let pos = self.place();
+        (pos, self.offset())
+    }
+
+    /// The next eight words as such places, one at each side.
+    pub(crate) fn offsets(&mut self) -> Sides<Offset> {
         let left = self.offset();
         let right = self.offset();
         let top = self.offset();
-        let bottom = self.offset();
-        self.end(Sides::new(left, right, top, bottom))
+        Sides::new(left, right, top, self.offset())
     }
 
-    /// The last word as a glyph, or `None` for none.
-    pub fn last_glyph(self) -> Result<Option<char>, LineFault> {
-        self.last().and_then(glyph_of)
-    }
-
-    /// The last word as a glyph, which can't be none.
-    pub fn last_fill(self) -> Result<char, LineFault> {
-        self.last_glyph()?.ok_or(LineFault::Unknown)
-    }
-
-    // The next word as the size and the fill of a side.
-    fn indent(&mut self) -> Indent {
-        let meant = indent_of(self.word());
-        self.taken(meant, Indent::new(0, ' '))
-    }
-
-    /// The last four words as the sizes and fills of the sides.
-    pub fn last_indents(mut self) -> Result<Sides<Indent>, LineFault> {
-        let left = self.indent();
-        let right = self.indent();
-        let top = self.indent();
-        let bottom = self.indent();
-        self.end(Sides::new(left, right, top, bottom))
-    }
-
-    // The next word as a colour, or `None` for none.
-    fn color<A: Allocator + Copy>(&mut self, alloc: A) -> Option<ANSIBuf<A>> {
-        let meant = color_of(alloc, self.word());
+    /// The next word as a glyph or a colour, or `None` for none.
+    pub fn value<A, T: PlaceValue<A> + Drop>(&mut self, alloc: A) -> Option<T> {
+        let meant = T::of_word(alloc, self.word());
         self.taken(meant, None)
     }
 
-    /// The last word as a colour, or `None` for none.
-    pub fn last_color<A: Allocator + Copy>(
-        self,
-        alloc: A,
-    ) -> Result<Option<ANSIBuf<A>>, LineFault> {
-        color_of(alloc, self.last()?)
+    /// The next word as a glyph, which can't be none.
+    pub(crate) fn fill(&mut self) -> char {
+        match self.value(()) {
+            Some(glyph) => glyph,
+            None => self.unknown(' '),
+        }
     }
 
-    /// The last word as a colour, which can't be none.
-    pub(crate) fn last_color_there<A: Allocator + Copy>(
-        self,
+    // The next word as the size and the fill of a side, as `3` or `3:.`.
+    fn indent(&mut self) -> Indent {
+        let word = self.word();
+        let (size, fill) = word.split_once(':').unwrap_or((word, "space"));
+        match (size.parse::<usize>(), glyph_of(fill)) {
+            (Ok(size), Ok(Some(fill))) => Indent::new(size, fill),
+            _ => self.unknown(Indent::new(0, ' ')),
+        }
+    }
+
+    /// The next four words as the sizes and fills of the sides.
+    pub fn indents(&mut self) -> Sides<Indent> {
+        let left = self.indent();
+        let right = self.indent();
+        let top = self.indent();
+        Sides::new(left, right, top, self.indent())
+    }
+
+    /// The next word as a colour, which can't be none.
+    pub(crate) fn color_there<A: Allocator + Copy>(
+        &mut self,
         alloc: A,
     ) -> Result<ANSIBuf<A>, LineFault> {
-        self.last_color(alloc)?.ok_or(LineFault::Unknown)
+        match self.value(alloc) {
+            Some(color) => Ok(color),
+            None => Err(self.fault.unwrap_or(LineFault::Unknown)),
+        }
     }
 
-    /// The last four words as the colours of the sides.
-    pub fn last_colors<A: Allocator + Copy>(
-        mut self,
-        alloc: A,
-    ) -> Result<Sides<Option<ANSIBuf<A>>>, LineFault> {
-        let left = self.color(alloc);
-        let right = self.color(alloc);
-        let top = self.color(alloc);
-        let bottom = self.color(alloc);
-        self.end(Sides::new(left, right, top, bottom))
+    /// The next four words as the colours of the sides.
+    pub(crate) fn colors<A: Allocator + Copy>(&mut self, alloc: A) -> Sides<Option<ANSIBuf<A>>> {
+        let left = self.value(alloc);
+        let right = self.value(alloc);
+        let top = self.value(alloc);
+        Sides::new(left, right, top, self.value(alloc))
     }
 
     /// All words that are left as the borders of a look, or as those whose places are named.
-    pub fn last_borders(self) -> Result<Borders<char>, LineFault> {
-        borders_of(self)
+    pub fn borders(&mut self) -> Borders<char> {
+        if self.rest.unwrap_or("").contains('=') {
+            return borders_at((), self);
+        }
+        let meant = borders_named(self.text());
+        self.taken(meant, Borders::empty())
     }
 
-    /// The last word as a horizontal alignment.
-    pub fn last_horizontal(self) -> Result<AlignmentHorizontal, LineFault> {
-        match self.last()? {
-            "left" => Ok(AlignmentHorizontal::Left),
-            "center" => Ok(AlignmentHorizontal::Center),
-            "right" => Ok(AlignmentHorizontal::Right),
-            _ => Err(LineFault::Unknown),
+    /// The next word as a horizontal alignment.
+    pub fn horizontal(&mut self) -> AlignmentHorizontal {
+        match self.word() {
+            "left" => AlignmentHorizontal::Left,
+            "center" => AlignmentHorizontal::Center,
+            "right" => AlignmentHorizontal::Right,
+            _ => self.unknown(AlignmentHorizontal::Left),
         }
     }
 
-    /// The last word as a vertical alignment.
-    pub fn last_vertical(self) -> Result<AlignmentVertical, LineFault> {
-        match self.last()? {
-            "top" => Ok(AlignmentVertical::Top),
-            "center" => Ok(AlignmentVertical::Center),
-            "bottom" => Ok(AlignmentVertical::Bottom),
-            _ => Err(LineFault::Unknown),
+    /// The next word as a vertical alignment.
+    pub(crate) fn vertical(&mut self) -> AlignmentVertical {
+        match self.word() {
+            "top" => AlignmentVertical::Top,
+            "center" => AlignmentVertical::Center,
+            "bottom" => AlignmentVertical::Bottom,
+            _ => self.unknown(AlignmentVertical::Top),
         }
     }
 
-    /// The last word as a switch.
-    pub fn last_switch(self) -> Result<bool, LineFault> {
-        match self.last()? {
-            "on" => Ok(true),
-            "off" => Ok(false),
-            _ => Err(LineFault::Unknown),
+    /// The next word as a switch.
+    pub(crate) fn switch(&mut self) -> bool {
+        match self.word() {
+            "on" => true,
+            "off" => false,
+            _ => self.unknown(false),
         }
     }
 }
@@ -241,22 +260,11 @@ pub(crate) fn color_of<A: Allocator + Copy>(
     if word == "none" {
         return Ok(None);
     }
-    match word.split_once('|') {
-        Some((prefix, suffix)) => Ok(Some(ANSIBuf::new(alloc, prefix, suffix)?)),
-        None => Err(LineFault::Unknown),
+    let Some((prefix, suffix)) = word.split_once('|') else {
+        return Err(LineFault::Unknown);
+    };
+    match ANSIBuf::new(alloc, prefix, suffix) {
+        Ok(color) => Ok(Some(color)),
+        Err(_) => Err(LineFault::Memory),
     }
-}
-
-// The size and the fill of one side, as `3` or `3:.`.
-fn indent_of(word: &str) -> Result<Indent, LineFault> {
-    let (size, fill) = word.split_once(':').unwrap_or((word, "space"));
-    match (size.parse::<usize>(), glyph_of(fill)?) {
-        (Ok(size), Some(fill)) => Ok(Indent::new(size, fill)),
-        _ => Err(LineFault::Unknown),
-    }
-}
-
-/// The number that a word means.
-pub(crate) fn number_of(word: &str) -> Result<usize, LineFault> {
-    word.parse::<usize>().ok().ok_or(LineFault::Unknown)
 }
