@@ -46,7 +46,6 @@ fn values_of<'a>(
 }
 
 // Runs a statement with these values.
-#[tactic(auto, using(sqlite::proofs::Callers::memory_is_clean))]
 fn run(
     connection: &mut Connection<MemStore>,
     text: &str,
