@@ -263,7 +263,15 @@ fn set_null(alloc: Global, source: &mut Source, text: String) {
     }
 }
 
-/// Sets an option, and returns whether there is one of this name with this value. A text for null is that of the last input.
+// The source of the last input.
+fn last_source(request: &mut Request) -> &mut Source {
+    match request.further.last_mut() {
+        Some(further) => &mut further.source,
+        None => &mut request.source,
+    }
+}
+
+/// Sets an option, and returns whether there is one of this name with this value. Options of JSON are those of the last input.
 pub(crate) fn set_option(
     alloc: Global,
     request: &mut Request,
@@ -281,19 +289,15 @@ pub(crate) fn set_option(
         return Ok(true);
     }
     if name == "at" {
-        push_name(alloc, &mut request.source, meant(alloc, value)?)?;
+        push_name(alloc, last_source(request), meant(alloc, value)?)?;
         return Ok(true);
     }
     if name == "flatten" {
-        set_flat(alloc, &mut request.source);
+        set_flat(alloc, last_source(request));
         return Ok(true);
     }
     if name == "null" {
-        let null = meant(alloc, value)?;
-        match request.further.last_mut() {
-            Some(further) => set_null(alloc, &mut further.source, null),
-            None => set_null(alloc, &mut request.source, null),
-        }
+        set_null(alloc, last_source(request), meant(alloc, value)?);
         return Ok(true);
     }
     if let Some(source) = source_set(alloc, request.source.log(), name, value)? {
