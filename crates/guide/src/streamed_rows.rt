@@ -1,24 +1,20 @@
 //! Tables of articles and prices, whose rows come from a vector, from an iterator over it, from arrays
 //! and from the parts of lines.
 //!
-//! It shows the calls that take all rows at once, or rows of any kind: [`priced_lines`] has rows
-//! that may be errors, and [`tested_rows`] rows after a test. None of its functions needs a proof
-//! by hand, nor does [`append_rows`], whose contract says what text it appends.
-
-mod priced_lines;
-mod tested_rows;
+//! It shows the calls that take all rows at once, or rows of any kind: rows that may be errors, by
+//! [`print_lines`], and rows that are printed at once, each after the test that it fits, by
+//! [`append_fitting`]. None of its functions needs a proof by hand, nor does [`append_rows`], whose
+//! contract says what text it appends.
 
 ghost use Rattle.std.specs.Prelude.{◌≡◌, ◌++◌, map, None, OnOk, string_bytes};
 ghost use Rattle.pg_stream.specs.Printing.{printer, rows_text};
 
 use crate::fault::Fault;
 use crate::rows::rows_of;
-use crate::streamed_rows::priced_lines::append_priced_lines;
-use crate::streamed_rows::tested_rows::append_fitting;
 use pg_config::SpannedConfig;
 use pg_layout::{Borders, Colors, Dimension, Entity, EvenDimension, NoColors, Sides};
-use pg_stream::{RowStream, StreamFault};
-use std::alloc::{AllocError, Global};
+use pg_stream::{RowFault, RowPrinter, RowStream, RowsFault, StreamFault};
+use std::alloc::{AllocError, AllocFailed, Global};
 
 /// An article and its price.
 const COLUMNS: usize = 2;
@@ -77,6 +73,95 @@ fn append_lines<'a>(
         stream = stream.push_from(alloc, line.split(','), buf)?;
     }
     stream.finish(buf)
+}
+
+/// Why a line isn't a row.
+#[derive(Drop)]
+enum LineFault {
+    /// No comma separates a price from the article.
+    NoPrice,
+    /// Out of memory for its cells.
+    Memory,
+}
+
+impl<T: Drop> From<AllocFailed<T>> for LineFault {
+    fn from(_error: AllocFailed<T>) -> LineFault {
+        LineFault::Memory
+    }
+}
+
+// The article and the price of a line.
+fn cells_of<'a>(alloc: Global, line: &'a str) -> Result<Vec<&'a str>, LineFault> {
+    match line.split_once(',') {
+        Some((article, price)) => Ok(vec![in alloc; article, price]?),
+        None => Err(LineFault::NoPrice),
+    }
+}
+
+// Prints a row for each line, up to the first one that isn't a row.
+fn print_lines(
+    alloc: Global,
+    config: &SpannedConfig,
+    dimension: &EvenDimension,
+    lines: &str,
+    buf: &mut String,
+) -> Result<(), RowsFault<LineFault>> {
+    let stream = RowStream::new(alloc, config, dimension, &NoColors, COLUMNS, None)?;
+    let mut rows = lines.lines().map(|line| cells_of(alloc, line));
+    stream.print_results(&mut rows, buf)
+}
+
+// Appends a row for each line. A line without a price ends the list: the rows above it stay,
+// except for the latest, and the list says why.
+fn append_priced_lines(
+    alloc: Global,
+    config: &SpannedConfig,
+    dimension: &EvenDimension,
+    lines: &str,
+    buf: &mut String,
+) -> Result<(), StreamFault> {
+    match print_lines(alloc, config, dimension, lines, buf) {
+        Ok(()) => Ok(()),
+        Err(RowsFault::Stream(fault)) => Err(fault),
+        Err(RowsFault::Source(LineFault::Memory)) => Err(StreamFault::Memory),
+        Err(RowsFault::Source(LineFault::NoPrice)) => {
+            buf.push_str("\nno price").map_err(StreamFault::from)
+        }
+    }
+}
+
+// Appends those of the rows that fit, and below them the last one. A row that doesn't fit gives
+// the printer back.
+fn append_fitting<'a>(
+    alloc: Global,
+    config: &SpannedConfig,
+    dimension: &EvenDimension,
+    rows: Vec<Vec<&'a str>>,
+    last: &[&'a str],
+    buf: &mut String,
+) -> Result<(), StreamFault> {
+    let mut printer = RowPrinter::try_new(alloc, config, dimension, &NoColors, COLUMNS, None)?;
+    for row in rows {
+        printer = match printer.try_row(row, false, buf) {
+            Ok(printer) => printer,
+            Err(RowFault::Misfit(printer)) => printer,
+            Err(RowFault::Memory) => return Err(StreamFault::Memory),
+        };
+    }
+    append_last(printer, last.to_vec(alloc)?, buf)
+}
+
+// Appends the last row after a test of its own, and the line below it.
+fn append_last(
+    printer: RowPrinter<'_, &str, EvenDimension, NoColors>,
+    cells: Vec<&str>,
+    buf: &mut String,
+) -> Result<(), StreamFault> {
+    if !printer.fits(&cells, true) {
+        return Err(StreamFault::Row(printer.rows()));
+    }
+    let printer = printer.row_of(cells, true, buf)?;
+    printer.finish(buf).map_err(StreamFault::from)
 }
 
 const BAKERY: &[&[&str]] = &[&["bread", "2.10"], &["milk", "0.95"]];
