@@ -284,25 +284,25 @@ run-joins dialect run first start (suc n) fields field within none cut =
 -- ---- a byte
 
 -- the state that a byte leaves
-abbrev next : State × Action → State
-next done = done.0
+abbrev state_left : State × Action → State
+state_left done = done.0
 
 -- a byte that ends no line belongs to a row
 row-begun : (dialect : Dialect) (state : State) (byte : ℕ) → is_line_end byte ≡ false → ends_at_end (step (config_of dialect) state byte).0 ≡ true
 row-begun dialect state byte goes = go (byte == 10) (byte == 13) refl refl goes state where
-  joins : (parts : Bool) → ends_at_end (next (if parts then (st.StartField, act.EndField) else (st.InField, act.Copy))) ≡ true
+  joins : (parts : Bool) → ends_at_end (state_left (if parts then (st.StartField, act.EndField) else (st.InField, act.Copy))) ≡ true
   joins true = refl
   joins false = refl
 
-  starts : (quote parts : Bool) → ends_at_end (next (if quote then (st.InQuoted, act.Skip) else if parts then (st.StartField, act.EndField) else (st.InField, act.Copy))) ≡ true
+  starts : (quote parts : Bool) → ends_at_end (state_left (if quote then (st.InQuoted, act.Skip) else if parts then (st.StartField, act.EndField) else (st.InField, act.Copy))) ≡ true
   starts true parts = refl
   starts false parts = joins parts
 
-  closes : (quote parts : Bool) → ends_at_end (next (if quote then (st.InQuoted, act.Copy) else if parts then (st.StartField, act.EndField) else (st.InField, act.Copy))) ≡ true
+  closes : (quote parts : Bool) → ends_at_end (state_left (if quote then (st.InQuoted, act.Copy) else if parts then (st.StartField, act.EndField) else (st.InField, act.Copy))) ≡ true
   closes true parts = refl
   closes false parts = joins parts
 
-  quoted : (quote escape : Bool) → ends_at_end (next (if quote then (st.AfterQuote, act.Skip) else if escape then (st.InEscape, act.Skip) else (st.InQuoted, act.Copy))) ≡ true
+  quoted : (quote escape : Bool) → ends_at_end (state_left (if quote then (st.AfterQuote, act.Skip) else if escape then (st.InEscape, act.Skip) else (st.InQuoted, act.Copy))) ≡ true
   quoted true escape = refl
   quoted false true = refl
   quoted false false = refl
