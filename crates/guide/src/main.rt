@@ -19,7 +19,6 @@ mod menu;
 mod price_list;
 mod record_blocks;
 mod rows;
-mod samples;
 mod shifts;
 mod streamed_rows;
 mod timetable;
@@ -125,15 +124,15 @@ fn table_of(alloc: Global, name: &str) -> Result<String, Fault> {
 // Prints what each program makes of its sample, after a line with its name.
 fn show_samples(rt: &impl Print, alloc: Global) -> Result<(), Fault> {
     for (name, sample) in [
-        ("word_counts", samples::LINES),
-        ("live_log", samples::LOG),
-        ("foreign_rows", samples::TEXTS),
+        ("word_counts", rows::LINES),
+        ("live_log", rows::LOG),
+        ("foreign_rows", rows::TEXTS),
     ] {
         println!(rt; "== {name}")?;
         print_program(rt, alloc, name, 40, sample.as_bytes())?;
     }
     println!(rt; "== word_counts_of_a_wide_line")?;
-    match word_counts::print_counts(rt, alloc, samples::WIDE_LINES.as_bytes()) {
+    match word_counts::print_counts(rt, alloc, rows::WIDE_LINES.as_bytes()) {
         Ok(()) => Ok(()),
         Err(fault) => println!(rt; "\n{fault}").map_err(Fault::from),
     }
