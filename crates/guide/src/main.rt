@@ -13,8 +13,7 @@ mod files;
 mod foreign_rows;
 mod grid_calls;
 mod invoice;
-mod levels;
-mod live_log;
+mod logs;
 mod menu;
 mod price_list;
 mod record_blocks;
@@ -115,7 +114,7 @@ fn table_of(alloc: Global, name: &str) -> Result<String, Fault> {
         "shifts_notes" => shifts::notes(alloc),
         "files" => files::files(alloc),
         "record_blocks" => record_blocks::blocks(alloc),
-        "levels" => levels::log(alloc),
+        "levels" => logs::levels(alloc),
         _ => return Err(Fault::Name),
     };
     text.map_err(Fault::from)
@@ -148,7 +147,7 @@ fn print_program<R: BufRead + Drop>(
 ) -> Result<(), Fault> {
     let text = match name {
         "word_counts" => return word_counts::print_counts(rt, alloc, input),
-        "live_log" => return live_log::print_log(rt, alloc, input),
+        "live_log" => return logs::print_log(rt, alloc, input),
         "foreign_rows" => foreign_rows::table_within(alloc, input, width),
         _ => text_of(alloc, name),
     };

@@ -1,5 +1,6 @@
-//! A log as it grows: a row for each line of an input, written as soon as the line has come. A
-//! message that is wider than its column is wrapped, and its row is as high as it needs.
+//! Logs. One is in colours by name: those of a column, of a row and of a cell, the latest one of which counts.
+//! The other one grows: a row for each line of an input is written as soon as the line has come. A message
+//! that is wider than its column is wrapped, and its row is as high as it needs.
 //!
 //! ```text
 //! ╭───────┬──────────────────────────╮
@@ -7,12 +8,43 @@
 //! ```
 
 use crate::fault::Fault;
-use pg_config::SpannedConfig;
+use crate::rows::records_of;
+use pg_config::{EntityColors, SpannedConfig};
 use pg_fit::{Breaking, Fitted, cut, row_height, visible, wrap_row};
-use pg_layout::{Borders, Entity, EvenDimension, NoColors, Sides};
+use pg_layout::{Borders, Color, Entity, EvenDimension, NoColors, Sides};
 use pg_stream::SizedStream;
+use pg_table::{NaturalTable, TableFault};
 use std::alloc::{AllocError, Global};
 use std::io::BufRead;
+
+const LEVELS: &[&[&str]] = &[
+    &["level", "text"],
+    &["info", "ready"],
+    &["error", "no room"],
+];
+
+/// A log whose levels have colours.
+pub(crate) fn levels(alloc: Global) -> Result<String, TableFault> {
+    let records = records_of(alloc, LEVELS)?;
+    let colors = colors(alloc)?;
+    let mut config = SpannedConfig::new(alloc);
+    config.set_borders(Borders::psql());
+    config.set_padding(Entity::Global, Sides::horizontal(1))?;
+    NaturalTable::new(&records, &config, &colors).to_string(alloc)
+}
+
+// Levels in green, the headings bold, and one level in red.
+fn colors(alloc: Global) -> Result<EntityColors, AllocError> {
+    let mut colors = EntityColors::new(alloc);
+    for (entity, color) in [
+        (Entity::Column(0), Color::green()),
+        (Entity::Row(0), Color::plain().bold()),
+        (Entity::Cell(2, 0), Color::red()),
+    ] {
+        colors.set(entity, color.to_ansi(alloc)?)?;
+    }
+    Ok(colors)
+}
 
 /// How wide a time and a message are, in terminal columns.
 const WIDTHS: [usize; 2] = [5, 24];
