@@ -7,7 +7,6 @@
 #![tactic(auto)]
 
 mod bill;
-mod compact_list;
 mod fault;
 mod files;
 mod foreign_rows;
@@ -20,9 +19,9 @@ mod record_blocks;
 mod rows;
 mod shifts;
 mod streamed_rows;
+mod tasks;
 mod timetable;
 mod titled;
-mod told_widths;
 mod word_counts;
 
 use crate::fault::Fault;
@@ -93,8 +92,8 @@ fn text_of(alloc: Global, name: &str) -> Result<String, Fault> {
     match name {
         "timetable" => timetable::week(alloc),
         "streamed_rows" => streamed_rows::lists(alloc),
-        "compact_list" => compact_list::list(alloc),
-        "told_widths" => told_widths::errands(alloc),
+        "compact_list" => tasks::list(alloc),
+        "told_widths" => tasks::errands(alloc),
         "grid_calls" => grid_calls::tables(alloc),
         _ => table_of(alloc, name),
     }
