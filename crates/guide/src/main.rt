@@ -17,7 +17,6 @@ mod menu;
 mod price_list;
 mod record_blocks;
 mod rows;
-mod shifts;
 mod streamed_rows;
 mod tasks;
 mod timetable;
@@ -108,9 +107,9 @@ fn table_of(alloc: Global, name: &str) -> Result<String, Fault> {
         "lunch" => menu::lunch(alloc),
         "dinner" => menu::dinner(alloc),
         "bill" => bill::bill(alloc),
-        "shifts" => shifts::list(alloc),
-        "shifts_page" => shifts::page(alloc),
-        "shifts_notes" => shifts::notes(alloc),
+        "shifts" => timetable::shifts_list(alloc),
+        "shifts_page" => timetable::shifts_page(alloc),
+        "shifts_notes" => timetable::shifts_notes(alloc),
         "files" => files::files(alloc),
         "record_blocks" => record_blocks::blocks(alloc),
         "levels" => logs::levels(alloc),

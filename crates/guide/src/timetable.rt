@@ -1,13 +1,20 @@
-//! A timetable: spans and colours, and given sizes.
+//! Timetables. One of lessons has spans and colours, and given sizes. In one of shifts a day is one cell; it is
+//! also HTML and Markdown, and its lines fill 30 terminal columns:
+//!
+//! ```text
+//! │Monday │early│Ada           │
+//! │       ├─────┼──────────────┤
+//! ```
 
 use crate::fault::Fault;
-use crate::rows::records_of;
+use crate::rows::{records_of, rows_of};
 use pg_config::SpannedConfig;
 use pg_layout::{
     AlignmentHorizontal, AlignmentVertical, Border, Borders, Color, ColorsMap, ConstantDimension,
     Entity, Position, Sides,
 };
 use pg_peekable::{PeekableGrid, TablePrinter};
+use pg_table::{Overflow, Table, TableFault};
 use std::alloc::{AllocError, Global};
 
 // The texts. Covered cells have one too, which isn't shown.
@@ -71,4 +78,37 @@ fn set_spans(config: &mut SpannedConfig) -> Result<(), AllocError> {
         ..Border::empty()
     };
     config.set_border(Position::new(3, 2), round_sport)
+}
+
+const SHIFTS: &[&[&str]] = &[
+    &["day", "shift", "who"],
+    &["Monday", "early", "Ada"],
+    &["Monday", "late", "Ben"],
+    &["Tuesday", "early", "Cy & Di"],
+];
+
+/// The shifts as a table.
+pub(crate) fn shifts_list(alloc: Global) -> Result<String, TableFault> {
+    let shifts = shifts(alloc)?;
+    shifts
+        .filled(alloc, 30, 2, Overflow::Cut("…"))?
+        .to_string(alloc)
+}
+
+/// The shifts as HTML.
+pub(crate) fn shifts_page(alloc: Global) -> Result<String, TableFault> {
+    Ok(shifts(alloc)?.to_html(alloc)?)
+}
+
+/// The shifts as Markdown.
+pub(crate) fn shifts_notes(alloc: Global) -> Result<String, TableFault> {
+    Ok(shifts(alloc)?.to_markdown(alloc)?)
+}
+
+// The table, in which each day is one cell.
+fn shifts(alloc: Global) -> Result<Table<&'static str>, TableFault> {
+    Table::new(alloc, rows_of(alloc, SHIFTS)?)?
+        .with_borders(Borders::modern())
+        .with_merged_column(0)?
+        .with_span_crossings(alloc, Borders::modern())
 }
