@@ -15,12 +15,11 @@ mod invoice;
 mod logs;
 mod menu;
 mod price_list;
-mod record_blocks;
 mod rows;
+mod stock;
 mod streamed_rows;
 mod tasks;
 mod timetable;
-mod titled;
 mod word_counts;
 
 use crate::fault::Fault;
@@ -103,7 +102,7 @@ fn table_of(alloc: Global, name: &str) -> Result<String, Fault> {
     let text = match name {
         "price_list" => price_list::prices(alloc),
         "invoice" => invoice::invoice(alloc),
-        "titled" => titled::stock(alloc),
+        "titled" => stock::titled(alloc),
         "lunch" => menu::lunch(alloc),
         "dinner" => menu::dinner(alloc),
         "bill" => bill::bill(alloc),
@@ -111,7 +110,7 @@ fn table_of(alloc: Global, name: &str) -> Result<String, Fault> {
         "shifts_page" => timetable::shifts_page(alloc),
         "shifts_notes" => timetable::shifts_notes(alloc),
         "files" => files::files(alloc),
-        "record_blocks" => record_blocks::blocks(alloc),
+        "record_blocks" => stock::blocks(alloc),
         "levels" => logs::levels(alloc),
         _ => return Err(Fault::Name),
     };

@@ -1,14 +1,26 @@
-//! Records as blocks of keys and values, one below another: for rows that are wider than the
-//! screen.
+//! A stock of two items: with a title above it and a word below, in existing lines, and as blocks of keys and
+//! values, one below another, for rows that are wider than the screen.
 //!
-//! The rows are pushed one after another. Keys are lent and headings are made, and both are cells
+//! The rows of blocks are pushed one after another. Keys are lent and headings are made, and both are cells
 //! of one table without a copy.
 
+use crate::rows::rows_of;
 use pg_config::SpannedConfig;
-use pg_layout::{Borders, HorizontalLine, Position, Sides};
+use pg_layout::{AlignmentHorizontal, Borders, HorizontalLine, Position, Sides};
 use pg_table::{Table, TableFault};
 use std::alloc::{AllocError, Global};
 use std::borrow::CowStr;
+
+/// The stock with a title.
+pub(crate) fn titled(alloc: Global) -> Result<String, TableFault> {
+    let rows = rows_of(alloc, &[&["tea", "12"], &["rice, brown", "3"]])?;
+    Table::new(alloc, rows)?
+        .with_borders(Borders::rounded())
+        .with_padding(Sides::spaces(1, 0))
+        .with_title(alloc, 0, " Stock ", AlignmentHorizontal::Center)?
+        .with_title(alloc, 2, " 2 items ", AlignmentHorizontal::Right)?
+        .to_string(alloc)
+}
 
 // The items of a stock: name, how many there are, the price.
 const STOCK: [[&str; 3]; 2] = [["tea", "12", "3.50"], ["rice, brown", "3", "14.20"]];
