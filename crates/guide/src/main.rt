@@ -8,7 +8,6 @@
 
 mod bill;
 mod fault;
-mod files;
 mod foreign_rows;
 mod grid_calls;
 mod invoice;
@@ -109,7 +108,7 @@ fn table_of(alloc: Global, name: &str) -> Result<String, Fault> {
         "shifts" => timetable::shifts_list(alloc),
         "shifts_page" => timetable::shifts_page(alloc),
         "shifts_notes" => timetable::shifts_notes(alloc),
-        "files" => files::files(alloc),
+        "files" => foreign_rows::files(alloc),
         "record_blocks" => stock::blocks(alloc),
         "levels" => logs::levels(alloc),
         _ => return Err(Fault::Name),
