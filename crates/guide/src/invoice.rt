@@ -1,15 +1,22 @@
-//! An invoice: a heading and a total that take several columns, and crossings that follow them.
+//! An invoice: a heading and a total that take several columns, and crossings that follow them. No line goes
+//! through a cell that takes several columns: [`Table::with_span_crossings`] draws the crossings on its edge by
+//! the lines that meet there.
 //!
-//! No line goes through a cell that takes several columns: [`Table::with_span_crossings`] draws the
-//! crossings on its edge by the lines that meet there.
+//! A bill has a panel above the others, and lines below it and above the total:
+//!
+//! ```text
+//! ╭───────────────╮
+//! │ Bill          │
+//! ├───────┬───────┤
+//! ```
 
 use crate::rows::rows_of;
 use pg_config::SpannedConfig;
-use pg_layout::{AlignmentHorizontal, Borders, Entity, Position, Sides};
+use pg_layout::{AlignmentHorizontal, Borders, Entity, HorizontalLine, Position, Sides};
 use pg_table::{Table, TableFault};
 use std::alloc::{AllocError, Global};
 
-const ROWS: &[&[&str]] = &[
+const INVOICE: &[&[&str]] = &[
     &["Invoice 2041", "", "", ""],
     &["item", "quantity", "price", "amount"],
     &["tea", "2", "3.50", "7.00"],
@@ -19,7 +26,7 @@ const ROWS: &[&[&str]] = &[
 
 /// The invoice.
 pub(crate) fn invoice(alloc: Global) -> Result<String, TableFault> {
-    let mut table = Table::new(alloc, rows_of(alloc, ROWS)?)?
+    let mut table = Table::new(alloc, rows_of(alloc, INVOICE)?)?
         .with_borders(Borders::modern())
         .with_padding(Sides::spaces(1, 0))
         .with_alignment(AlignmentHorizontal::Right);
@@ -35,4 +42,24 @@ fn set_cells(config: &mut SpannedConfig) -> Result<(), AllocError> {
     config.set_column_span(Position::new(0, 0), 4)?;
     config.set_alignment_horizontal(Entity::Cell(0, 0), AlignmentHorizontal::Center)?;
     config.set_column_span(Position::new(4, 0), 3)
+}
+
+const BILL: &[&[&str]] = &[
+    &["Bill"],
+    &["soup", "4.20"],
+    &["rice", "6.50"],
+    &["total", "10.70"],
+];
+
+/// A bill over two dishes.
+pub(crate) fn bill(alloc: Global) -> Result<String, TableFault> {
+    Table::padded(alloc, rows_of(alloc, BILL)?, "")?
+        .with_borders(Borders::rounded())
+        .with_padding(Sides::spaces(1, 0))
+        .with_column_alignment(1, AlignmentHorizontal::Right)?
+        .with_panel(0)?
+        .with_row_line(1, HorizontalLine::sharp())?
+        .with_foot_line(HorizontalLine::sharp())?
+        .with_span_crossings(alloc, Borders::rounded())?
+        .to_string(alloc)
 }

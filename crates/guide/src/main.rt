@@ -3,10 +3,9 @@
 //! runs, such as `invoice`; one that reads an input reads standard input: `live_log`, or
 //! `foreign_rows 40` with the width of its table.
 //!
-//! Each program is a module. None of their functions needs a proof by hand.
+//! Each module has one program, or several of one subject. None of their functions needs a proof by hand.
 #![tactic(auto)]
 
-mod bill;
 mod fault;
 mod foreign_rows;
 mod grid_calls;
@@ -104,7 +103,7 @@ fn table_of(alloc: Global, name: &str) -> Result<String, Fault> {
         "titled" => stock::titled(alloc),
         "lunch" => menu::lunch(alloc),
         "dinner" => menu::dinner(alloc),
-        "bill" => bill::bill(alloc),
+        "bill" => invoice::bill(alloc),
         "shifts" => timetable::shifts_list(alloc),
         "shifts_page" => timetable::shifts_page(alloc),
         "shifts_notes" => timetable::shifts_notes(alloc),
