@@ -48,7 +48,7 @@
 //! refused, a call answers that and leaves a beginning of the text, and so do all calls behind it, which append
 //! nothing; where none is, all is as expected; and one request comes at least, which is one more answer.
 //!
-//! Behind the sections comes what no section can say, in the modules `given`, `cells` and `values`.
+//! Behind the sections comes what no section can say, in the modules `given` and `cells`.
 
 use crate::case::{Case, CaseFault, set_numbers};
 use crate::streams::printing::{Way, check_others};
@@ -64,7 +64,6 @@ mod calls;
 mod cells;
 mod given;
 mod printing;
-mod values;
 mod watch;
 
 /// What a step asks for.
