@@ -64,7 +64,6 @@ mod calls;
 mod cells;
 mod given;
 mod printing;
-mod watch;
 
 /// What a step asks for.
 #[derive(Clone, Copy)]

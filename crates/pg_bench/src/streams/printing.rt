@@ -2,9 +2,9 @@
 //! that say whether each line of it is shown.
 
 use crate::case::{CaseFault, Mismatch, Wrong, owned_row};
+use crate::streams::calls::{Buffer, Memory, OLD, Watch};
 use crate::streams::cells::{check_counted, check_taken, check_values};
 use crate::streams::given::check_given;
-use crate::streams::watch::{Buffer, Memory, OLD, Watch};
 use crate::streams::{Step, StepKind, StreamCase};
 use crate::tables::drawing::{Grid, GridCall, SizedTable};
 use pg_config::CompactConfig;
