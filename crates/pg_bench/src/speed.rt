@@ -13,7 +13,6 @@ use std::io::{self, Write};
 
 mod case;
 mod measure;
-mod settings;
 mod texts;
 
 // Those of FNV-1a, a checksum of 64 bits.

@@ -1,8 +1,7 @@
 //! Tables, built over and over into one buffer, some of rows that are made anew in each build.
 
 use crate::case::CaseFault;
-use crate::speed::case::{Case, Grid, Table};
-use crate::speed::settings::{colors, compact_settings, set, tell};
+use crate::speed::case::{Case, Grid, Table, colors, compact_settings, set, tell};
 use crate::speed::texts::{MadeRecords, SAME, records, sizes};
 use pg_config::{CompactConfig, SpannedConfig};
 use pg_grid::{CompactGrid, IterGrid, PeekableGrid, TablePrinter};
