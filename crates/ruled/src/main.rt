@@ -4,15 +4,11 @@
 
 mod arguments;
 mod choices;
-mod contents;
-mod logs;
+mod inputs;
 mod source;
-mod waiting;
 
 use crate::arguments::{Asked, Wanted, read_arguments};
-use crate::contents::{Content, content_named};
-use crate::logs::log_beside;
-use crate::waiting::Waiting;
+use crate::inputs::{Content, Waiting, content_named, log_beside};
 use ruled_io::{
     Decoded, Encoding, FurtherInput, Known, Output, Pieces, Quoted, Request, Selection, Source, run,
 };

@@ -1,10 +1,13 @@
-//! Files that have no rows of text: compressed ones, and others that their first bytes show.
+//! Inputs: files that have no rows of text, such as compressed ones, which their first bytes show; the logs beside the
+//! file of a database; and reads that wait.
 
 ghost use Rattle.std.specs.Prelude.{◌≡◌, ◌&&◌, ◌||◌, ◌∷◌, ◌++◌, [], codes, drop, nat_eq, option_map, None, Some, if◌then◌else◌};
 ghost use Rattle.std.specs.List.{starts_with};
 
+use ruled_io::Log;
 use std::io::{ErrorKind, Read};
-use std::{fs, io};
+use std::time::Duration;
+use std::{fs, io, thread};
 
 // The program that unpacks what begins with these bytes, if it is compressed: by gzip, by bzip2, with a digit as the
 // fourth byte, by xz or by zstd.
@@ -93,5 +96,68 @@ pub(crate) fn content_named(rt: &HostRuntime, name: &str) -> io::Result<Option<C
     match content_in(rt, name) {
         Err(error) if error.kind() != ErrorKind::OutOfMemory => Ok(None),
         found => found,
+    }
+}
+
+// The first byte of the file at this path with this ending behind it, where there is one.
+fn first_byte(rt: &HostRuntime, path: &str, ending: &str) -> io::Result<Option<u8>> {
+    let name = format!(in rt.alloc(); "{path}{ending}")?;
+    let mut byte = [0u8; 1];
+    let count = match fs::open(rt, name.as_str()) {
+        Ok(mut file) => file.read(&mut byte)?,
+        Err(error) if error.kind() == ErrorKind::NotFound => 0,
+        Err(error) => return Err(error),
+    };
+    Ok(if count == 0 { None } else { Some(byte[0]) })
+}
+
+// Whether a log beside the file of this name may have rows. SQLite keeps one in WAL mode, and another one
+// of what a transaction has overwritten, which begins with a zero, if with anything, where none is open.
+fn has_rows(rt: &HostRuntime, name: &str) -> io::Result<bool> {
+    let path = fs::canonicalize(rt, name)?;
+    let path = path.as_path().as_str();
+    let log = first_byte(rt, path, "-wal")?;
+    let journal = first_byte(rt, path, "-journal")?;
+    Ok(log.is_some() || matches!(journal, Some(1..=255)))
+}
+
+/// What is known of the logs beside the file of this name. Of one that can't be read it isn't known that
+/// it has no rows. The only error is out of memory.
+pub(crate) fn log_beside(rt: &HostRuntime, name: &str) -> io::Result<Log> {
+    match fs::metadata(rt, name) {
+        Ok(metadata) if metadata.is_file() => match has_rows(rt, name) {
+            Ok(false) => Ok(Log::Empty),
+            Err(error) if error.kind() == ErrorKind::OutOfMemory => Err(error),
+            _ => Ok(Log::Filled),
+        },
+        _ => Ok(Log::Unknown),
+    }
+}
+
+/// A reader that waits for its input. Where a program that shares a terminal or a pipe has set it so, a read
+/// returns `WouldBlock` until there is input: such a read is tried again, a hundred times a second.
+#[derive(Drop)]
+pub(crate) struct Waiting<R> {
+    rt: HostRuntime,
+    input: R,
+}
+
+impl<R: Read> Waiting<R> {
+    pub(crate) fn new(rt: HostRuntime, input: R) -> Waiting<R> {
+        Waiting { rt, input }
+    }
+}
+
+impl<R: Read> Read for Waiting<R> {
+    fn read(&mut self, buf: &mut [u8]) -> io::Result<usize> {
+        for _ in 0..u64::MAX {
+            match self.input.read(buf) {
+                Err(error) if error.kind() == ErrorKind::WouldBlock => {
+                    thread::sleep(&self.rt, Duration::from_millis(10));
+                }
+                result => return result,
+            }
+        }
+        Err(ErrorKind::WouldBlock.into())
     }
 }
