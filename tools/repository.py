@@ -1,4 +1,5 @@
-"""The crates of the repository, as crates.txt lists them, its version, the logic that it is proved with, and its documents.
+"""The crates of the repository, as crates.txt lists them, its version, the logic that it is proved with, its documents, and the
+functions of a source.
 
 `python3 tools/repository.py NAME` prints those below a crate, lowest first, and then that one.
 """
@@ -41,6 +42,44 @@ def sources_of(name):
     """The files that the proof of a crate reads."""
     folders = [TOP / "crates" / name / part for part in ("src", "specs", "proofs")]
     return [file for folder in folders for file in sorted(folder.rglob("*")) if file.is_file()]
+
+
+def functions_in(text):
+    """Where each function of a file begins and ends, with the type and the trait of its impl, and its name."""
+    for fn in re.finditer(r"^( *)(?:pub(?:\([a-z]+\))? )?(?:const )?(?:unsafe )?(?:final )?fn (\w+)", text, re.M):
+        closing = re.compile(rf"^{fn[1]}(\}}|\{{\}})$", re.M).search(text, fn.end())
+        kind = trait = ""
+        if fn[1]:
+            head = re.findall(r"^(?:pub(?:\([a-z]+\))? )?(?:unsafe )?(?:impl|trait)\b([^{;]*)", text[: fn.start()], re.M)[-1]
+            trait, kind = type_of(head)
+        yield fn.start(), closing.end() if closing else len(text), (kind, trait, fn[2])
+
+
+def type_of(head):
+    """The trait, if there is one, and the type of an impl's first line."""
+    head = re.split(r"\bwhere\b", behind_parameters(head))[0]
+    trait, _, kind = head.rpartition(" for ")
+    # Each impl of `From` has the name of what it converts.
+    converted = re.match(r"From\s*<\s*(?:&?\s*(\w+)|\()", trait.strip())
+    reference = "Ref" if kind.strip().startswith("&") else ""
+    return last_word(trait) + (converted[1] or "Tuple" if converted else ""), reference + last_word(kind.strip().lstrip("&"))
+
+
+def behind_parameters(head):
+    """An impl's first line behind its type parameters."""
+    depth, at = 0, 0
+    if not head.startswith("<"):
+        return head
+    for at, letter in enumerate(head):
+        depth += (letter == "<") - (letter == ">" and head[at - 1] != "-")
+        if depth == 0:
+            break
+    return head[at + 1 :]
+
+
+def last_word(path):
+    """The last word of a path, without its type parameters."""
+    return (re.findall(r"\w+(?=\s*(?:<|$))", path.strip()) or [""])[0]
 
 
 class Block(NamedTuple):
