@@ -2,7 +2,7 @@
 
 use crate::case::CaseFault;
 use crate::values::Fact;
-use pg_layout::{AlignmentHorizontal, ExactRecords, Position};
+use pg_layout::{AlignmentHorizontal, Color, Entity, ExactRecords, Position, Sides};
 use pg_table::{Overflow, Table, TableFault};
 use pg_testing::ledger::{Outcome, Trial};
 use pg_testing::refusing::Refusing;
@@ -18,6 +18,10 @@ enum Call {
     Merged(usize),
     /// A panel above centred texts and others at the right.
     Panel,
+    /// A column in red, then row 1 in green, and then its cell in column 1 bold.
+    Colors,
+    /// Paddings, and every second row from row 1 on filled with red.
+    Stripes,
 }
 
 /// Calls that make a text of a table.
@@ -29,6 +33,8 @@ enum Export {
     Filled(usize, usize),
     /// The picture of its columns as rows.
     Transposed,
+    /// The picture, an `x` and the picture again beside each other, with so many spaces between two.
+    Beside(usize),
     /// HTML.
     Html,
 }
@@ -115,6 +121,27 @@ const CASES: &[Case] = &[
         text: "+-+-+-+\n|a|c|e|\n+-+-+-+\n|b|d|f|\n+-+-+-+",
     },
     Case {
+        name: "the latest colour of a cell counts",
+        rows: &[&["a", "b"], &["c", "d"]],
+        call: Call::Colors,
+        export: Export::Picture,
+        text: "+-+-+\n|\u{1b}[31ma\u{1b}[39m|b|\n+-+-+\n|\u{1b}[32mc\u{1b}[39m|\u{1b}[1md\u{1b}[22m|\n+-+-+",
+    },
+    Case {
+        name: "a stripe fills a text and the paddings and the room beside it",
+        rows: &[&["a"], &["bb"], &["c"], &["d"]],
+        call: Call::Stripes,
+        export: Export::Picture,
+        text: "+----+\n| a  |\n+----+\n|\u{1b}[41m \u{1b}[49m\u{1b}[41mbb\u{1b}[49m\u{1b}[41m \u{1b}[49m|\n+----+\n| c  |\n+----+\n|\u{1b}[41m \u{1b}[49m\u{1b}[41md\u{1b}[49m\u{1b}[41m \u{1b}[49m\u{1b}[41m \u{1b}[49m|\n+----+",
+    },
+    Case {
+        name: "texts are beside each other",
+        rows: &[&["a"], &["b"]],
+        call: Call::Nothing,
+        export: Export::Beside(2),
+        text: "+-+  x  +-+\n|a|     |a|\n+-+     +-+\n|b|     |b|\n+-+     +-+",
+    },
+    Case {
         name: "no text of a cell is markup",
         rows: &[&["<b>", "\"q\""], &["a & b", "é"]],
         call: Call::Nothing,
@@ -151,6 +178,7 @@ fn table_of<A: Allocator + Copy>(
 
 // The table behind the call that changes it.
 fn changed<A: Allocator + Copy>(
+    alloc: A,
     table: Table<&'static str, A>,
     call: Call,
 ) -> Result<Table<&'static str, A>, TableFault> {
@@ -161,7 +189,24 @@ fn changed<A: Allocator + Copy>(
             .with_alignment(AlignmentHorizontal::Center)
             .with_column_alignment(1, AlignmentHorizontal::Right)?
             .with_panel(0),
+        Call::Colors => table
+            .with_color(alloc, Entity::Column(0), Color::red())?
+            .with_color(alloc, Entity::Row(1), Color::green())?
+            .with_color(alloc, Entity::Cell(1, 1), Color::plain().bold()),
+        Call::Stripes => table
+            .with_padding(Sides::spaces(1, 0))
+            .with_stripes(alloc, 1, 2, Color::plain().on_red()),
     }
+}
+
+// The picture of a table, a text and the picture again.
+fn beside<'m>(
+    alloc: &'m Refusing<Global>,
+    picture: &str,
+    gap: usize,
+) -> Result<String<&'m Refusing<Global>>, TableFault> {
+    let texts = vec![in alloc; picture, "x", picture]?;
+    Table::beside(alloc, texts, gap)?.to_string(alloc)
 }
 
 // The text of what the calls make.
@@ -169,13 +214,14 @@ fn text_of<'m>(
     alloc: &'m Refusing<Global>,
     case: &Case,
 ) -> Result<String<&'m Refusing<Global>>, TableFault> {
-    let table = changed(table_of(alloc, case.rows)?, case.call)?;
+    let table = changed(alloc, table_of(alloc, case.rows)?, case.call)?;
     match case.export {
         Export::Picture => table.to_string(alloc),
         Export::Filled(width, column) => table
             .filled(alloc, width, column, Overflow::Cut("…"))?
             .to_string(alloc),
         Export::Transposed => table.transposed(alloc)?.to_string(alloc),
+        Export::Beside(gap) => beside(alloc, &table.to_string(alloc)?, gap),
         Export::Html => table.to_html(alloc).map_err(TableFault::from),
     }
 }
