@@ -27,12 +27,13 @@ use std::io::{BufRead, Lock};
 use std::process::ExitCode;
 
 // The programs that read no input.
-const NAMES: [&str; 17] = [
+const NAMES: [&str; 18] = [
     "price_list",
     "invoice",
     "titled",
     "lunch",
     "dinner",
+    "menus",
     "bill",
     "shifts",
     "shifts_page",
@@ -103,6 +104,7 @@ fn table_of(alloc: Global, name: &str) -> Result<String, Fault> {
         "titled" => stock::titled(alloc),
         "lunch" => menu::lunch(alloc),
         "dinner" => menu::dinner(alloc),
+        "menus" => menu::menus(alloc),
         "bill" => invoice::bill(alloc),
         "shifts" => timetable::shifts_list(alloc),
         "shifts_page" => timetable::shifts_page(alloc),

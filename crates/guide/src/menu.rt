@@ -92,3 +92,9 @@ fn look(alloc: Global) -> Result<SpannedConfig, AllocError>
     config.set_column_span(Position::new(0, 0), 2)?;
     Ok(config)
 }
+
+/// Both menus, beside each other.
+pub(crate) fn menus(alloc: Global) -> Result<String, TableFault> {
+    let menus = vec![in alloc; lunch(alloc)?, dinner(alloc)?]?;
+    Table::beside(alloc, menus, 2)?.to_string(alloc)
+}
