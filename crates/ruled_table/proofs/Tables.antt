@@ -64,7 +64,8 @@ use Rattle.pg_picture.proofs.PlacesOfTexts.{length-shown, widest-untrimmed}
 use Rattle.pg_table.specs.Inside.{plain_size}
 use Rattle.pg_table.specs.declared.sizes.Axis.TheVariants.{Columns, Rows}
 use Rattle.pg_table.proofs.Faults.{cells-no_fault}
-use Rattle.pg_table.proofs.NaturalRoom.{map-below, cell-below, plain-naturals, plain-widths}
+use Rattle.pg_table.proofs.ListedSizes.{cell-below}
+use Rattle.pg_table.proofs.NaturalRoom.{map-below, plain-naturals, plain-widths}
 use Rattle.pg_table.proofs.ShownCells.{cells-from, sized-from}
 
 -- ---- the text of a table of rows, by whether there are any
