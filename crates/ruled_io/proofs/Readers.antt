@@ -27,7 +27,6 @@ use Rattle.ruled_csv.specs.declared.fault.RowsFault.TheVariants as rows_fault
 use Rattle.ruled_csv.specs.declared.reader.RowReader.{RowReader}
 use Rattle.ruled_json.specs.Faults as json_faults
 use Rattle.ruled_json.specs.Streamed as json_reading
-use Rattle.ruled_json.specs.Streamed as json_streamed
 use Rattle.ruled_json.specs.declared.fault.JsonFault.{JsonFault}
 use Rattle.ruled_json.specs.declared.fault.JsonFault.TheVariants as json_fault
 use Rattle.ruled_json.specs.declared.line_reader.LineReader.{LineReader}
@@ -44,7 +43,6 @@ use Rattle.ruled_table.specs.Layouts.{whole_text, Plan}
 use Rattle.ruled_table.specs.declared.options.Options.{Options}
 use Rattle.ruled_table.specs.declared.table_rows.TableRows.{TableRows}
 use Rattle.ruled_table.proofs.RowsInParts as pictures
-use Rattle.ruled_table.proofs.RowsInParts as parts
 
 -- ---- a reading that goes on
 
@@ -128,11 +126,11 @@ module _ (format : Format) (records : LineRules) (before bytes all : List ℕ) (
       (ap (option_map fault_of_rows) (told some) ∙ ap (λ (f : InputFault). Some f) (rows-wrong found some), rest some)
 
   pub lines-more : (reader : LineReader) → format ≡ JsonLines → json_reading.HasRead records (before ++ bytes) reader
-      → AppendsRest (json_streamed.ended_line_rows records before) (json_streamed.ended_line_rows records (before ++ bytes)) old new → Gives format records before bytes all old new (More (Lines reader))
+      → AppendsRest (json_reading.ended_line_rows records before) (json_reading.ended_line_rows records (before ++ bytes)) old new → Gives format records before bytes all old new (More (Lines reader))
   lines-more reader is has rest = subst (λ (f : Format). Gives f records before bytes all old new (More (Lines reader))) (sym is) ((refl, has), rest)
 
-  pub lines-bad : (found : JsonFault) → found ≢ json_fault.Memory → format ≡ JsonLines → (found ≢ json_fault.Memory → json_streamed.streamed_line_fault records all ≡ Some (json_faults.but_line found))
-      → (found ≢ json_fault.Memory → AppendsRest (json_streamed.ended_line_rows records before) (json_streamed.sound_line_rows records all) old new) → Gives format records before bytes all old new (Done (Some (input.Json found)))
+  pub lines-bad : (found : JsonFault) → found ≢ json_fault.Memory → format ≡ JsonLines → (found ≢ json_fault.Memory → json_reading.streamed_line_fault records all ≡ Some (json_faults.but_line found))
+      → (found ≢ json_fault.Memory → AppendsRest (json_reading.ended_line_rows records before) (json_reading.sound_line_rows records all) old new) → Gives format records before bytes all old new (Done (Some (input.Json found)))
   lines-bad found some is told rest =
       subst (λ (f : Format). Gives f records before bytes all old new (Done (Some (input.Json found)))) (sym is)
       (ap (option_map fault_of_json) (told some) ∙ ap (λ (f : InputFault). Some f) (lines-wrong found some), rest some)
@@ -148,12 +146,12 @@ module _ (format : Format) (records : LineRules) (bytes : List ℕ) (old new : L
       subst (λ (f : Format). Ends f records bytes old new (Done (Some (input.Rows found)))) (sym is)
       (ap (option_map fault_of_rows) (told some) ∙ ap (λ (f : InputFault). Some f) (rows-wrong found some), rest some)
 
-  pub lines-end : format ≡ JsonLines → json_streamed.streamed_line_fault records bytes ≡ None
-      → AppendsRest (json_streamed.ended_line_rows records bytes) (json_streamed.sound_line_rows records bytes) old new → Ends format records bytes old new (Done None)
+  pub lines-end : format ≡ JsonLines → json_reading.streamed_line_fault records bytes ≡ None
+      → AppendsRest (json_reading.ended_line_rows records bytes) (json_reading.sound_line_rows records bytes) old new → Ends format records bytes old new (Done None)
   lines-end is none rest = subst (λ (f : Format). Ends f records bytes old new (Done None)) (sym is) (ap (option_map fault_of_json) none, rest)
 
-  pub lines-end-bad : (found : JsonFault) → found ≢ json_fault.Memory → format ≡ JsonLines → (found ≢ json_fault.Memory → json_streamed.streamed_line_fault records bytes ≡ Some (json_faults.but_line found))
-      → (found ≢ json_fault.Memory → AppendsRest (json_streamed.ended_line_rows records bytes) (json_streamed.sound_line_rows records bytes) old new) → Ends format records bytes old new (Done (Some (input.Json found)))
+  pub lines-end-bad : (found : JsonFault) → found ≢ json_fault.Memory → format ≡ JsonLines → (found ≢ json_fault.Memory → json_reading.streamed_line_fault records bytes ≡ Some (json_faults.but_line found))
+      → (found ≢ json_fault.Memory → AppendsRest (json_reading.ended_line_rows records bytes) (json_reading.sound_line_rows records bytes) old new) → Ends format records bytes old new (Done (Some (input.Json found)))
   lines-end-bad found some is told rest =
       subst (λ (f : Format). Ends f records bytes old new (Done (Some (input.Json found)))) (sym is)
       (ap (option_map fault_of_json) (told some) ∙ ap (λ (f : InputFault). Some f) (lines-wrong found some), rest some)
@@ -176,7 +174,7 @@ no-rows : (dialect : Dialect) → csv_faults.sound_rows dialect [] ≡ []
 unfolding csv_faults.sound_rows kept_text
 no-rows dialect = ap (λ (rows : List (List Text)). take_while (csv_faults.is_sound dialect (csv_rows.columns_of rows)) rows) (no-row dialect)
 
-no-lines : (records : LineRules) → json_streamed.sound_line_rows records [] ≡ []
+no-lines : (records : LineRules) → json_reading.sound_line_rows records [] ≡ []
 unfolding strip_bom json_rows.line_rows_of json_faults.line_rows_fault
 no-lines records =
     let none = json.fault-as-at-once records [] (omega arith) in
@@ -187,10 +185,10 @@ rows-begin dialect reader has =
     let (more, same) = csv.ended-sound dialect [] [] reader has in
     nil-front (csv_rows.ended_rows dialect []) more (sym same ∙ no-rows dialect)
 
-pub lines-begin : (records : LineRules) (reader : LineReader) → json_reading.HasRead records [] reader → json_streamed.ended_line_rows records [] ≡ []
+pub lines-begin : (records : LineRules) (reader : LineReader) → json_reading.HasRead records [] reader → json_reading.ended_line_rows records [] ≡ []
 lines-begin records reader has =
     let (more, same) = json.ended-sound records [] [] reader has in
-    nil-front (json_streamed.ended_line_rows records []) more (sym same ∙ no-lines records)
+    nil-front (json_reading.ended_line_rows records []) more (sym same ∙ no-lines records)
 
 -- the rows that the first bytes give
 pub front-rows : {E : Type 0} (format : Format) (records : LineRules) (front rest : List ℕ) (old new : List (List Text)) (result : Result Reading E) → ended_rows format records [] ≡ []
@@ -283,7 +281,7 @@ on-err (Err fault) p = p
 -- ---- the lines of a table that is drawn row by row are a beginning of its picture
 
 pub begun-on : (options : Options) (plan : Plan) (above : List (List Text)) (table : TableRows) (rows more : List (List Text)) → HasAppended options plan above table → (x : Text) × (begun_text options plan rows ++ x ≡ begun_text options plan (rows ++ more))
-begun-on options plan above table rows more has = parts.begun-on options plan rows more has.drawn.plain
+begun-on options plan above table rows more has = pictures.begun-on options plan rows more has.drawn.plain
 
 pub begun-whole : (options : Options) (plan : Plan) (above : List (List Text)) (table : TableRows) (rows : List (List Text)) → HasAppended options plan above table → (x : Text) × (begun_text options plan rows ++ x ≡ whole_text options plan rows)
 begun-whole options plan above table rows has = pictures.begun-whole options plan rows has.drawn.plain has.drawn.some

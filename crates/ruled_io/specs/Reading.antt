@@ -7,7 +7,6 @@ use Rattle.ruled_csv.specs.Reading as csv_reading
 use Rattle.ruled_csv.specs.Rows as csv_rows
 use Rattle.ruled_csv.specs.declared.dialect.Dialect.{Dialect}
 use Rattle.ruled_json.specs.Streamed as json_reading
-use Rattle.ruled_json.specs.Streamed as json_streamed
 use Rattle.ruled_json.specs.Streamed.{LineRules}
 use Rattle.ruled_io.specs.Faults.{but_line_in, fault_of_json, fault_of_rows, is_read, read_part}
 use Rattle.ruled_io.specs.Formats.{content_of, format_shown, is_database, setting_of}
@@ -47,13 +46,13 @@ ReportsRead failure result = IfErr result (λ fault. is_read fault ≡ true → 
 abbrev pub sound_rows : Format → LineRules → List ℕ → List (List Text)
 sound_rows (Separated dialect) rules bytes = csv_faults.sound_rows dialect bytes
 sound_rows Json rules bytes = []
-sound_rows JsonLines rules bytes = json_streamed.sound_line_rows rules bytes
+sound_rows JsonLines rules bytes = json_reading.sound_line_rows rules bytes
 
 -- what is wrong with it; a value that holds all rows isn't read one row after another
 abbrev pub wrong_in : Format → LineRules → List ℕ → Option InputFault
 wrong_in (Separated dialect) rules bytes = option_map fault_of_rows (csv_faults.rows_fault dialect bytes)
 wrong_in Json rules bytes = Some (Stream Value)
-wrong_in JsonLines rules bytes = option_map fault_of_json (json_streamed.streamed_line_fault rules bytes)
+wrong_in JsonLines rules bytes = option_map fault_of_json (json_reading.streamed_line_fault rules bytes)
 
 -- ---- a beginning of it
 
@@ -61,7 +60,7 @@ wrong_in JsonLines rules bytes = option_map fault_of_json (json_streamed.streame
 abbrev pub ended_rows : Format → LineRules → List ℕ → List (List Text)
 ended_rows (Separated dialect) rules bytes = csv_rows.ended_rows dialect bytes
 ended_rows Json rules bytes = []
-ended_rows JsonLines rules bytes = json_streamed.ended_line_rows rules bytes
+ended_rows JsonLines rules bytes = json_reading.ended_line_rows rules bytes
 
 -- a reader has read these bytes of an input in this format, and found nothing wrong
 abbrev pub HasTaken : Format → LineRules → List ℕ → Reader → Type 0
