@@ -64,8 +64,7 @@ use Rattle.pg_picture.proofs.PlacesOfTexts.{length-shown, widest-untrimmed}
 use Rattle.pg_table.specs.Inside.{plain_size}
 use Rattle.pg_table.specs.declared.sizes.Axis.TheVariants.{Columns, Rows}
 use Rattle.pg_table.proofs.Faults.{cells-no_fault}
-use Rattle.pg_table.proofs.ListedSizes.{cell-below}
-use Rattle.pg_table.proofs.NaturalRoom.{map-below, plain-naturals, plain-widths}
+use Rattle.pg_table.proofs.NaturalRoom.{map-below, plain-covers, plain-naturals, plain-widths}
 use Rattle.pg_table.proofs.ShownCells.{cells-from, sized-from}
 
 -- ---- the text of a table of rows, by whether there are any
@@ -394,7 +393,7 @@ module _ (config : Config) (spaces : HasSpaces config) (texts : List (List Text)
       let cells : ((length texts == 0) || (columns_of texts == 0)) ≡ false = grind (arith, nat_tests, some, rows) in
       let sized : (r c : ℕ) → r < length texts → c < columns_of texts → is_sized config (text_at texts) (at r c) ≡ true = λ r c h l.
       sized-from config (text_at texts) (at r c)
-      (omega (arith, cell-below Columns config (text_at texts) (length texts) c r h, column-width c, wide c l))
+      (omega (arith, plain-covers Columns config (text_at texts) (length texts) c r h, column-width c, wide c l))
       (omega (arith, spaces.above (at r c), text-height (at r c), count_by-le-length is_feed (text_at texts (at r c)), short r c))
       in
       cells-no_fault config texts (columns_of texts) cells (none-in-order config.spans (length texts) (columns_of texts) spaces.spans)
