@@ -4,7 +4,7 @@ use Rattle.std.proofs.Common.{add-zero, zero-add, arith, ◌<◌, get_or, take, 
 use Rattle.std.specs.Prelude.{nat_lt, ⊤, IfSome}
 use Rattle.std.proofs.lemmas.Bool.Decides.{nat_tests}
 use Rattle.std.proofs.Math.Seq.{get_or-append_seam}
-use Rattle.std.proofs.lemmas.List.{map-append, take_more, at_drop_more, length-map, length_push, nil_from_length, take-map}
+use Rattle.std.proofs.lemmas.List.{map-append, take_more, at_drop_more, length-map, length_push, nil_from_length}
 use Rattle.pg_layout.specs.Text.{Text}
 use Rattle.pg_config.specs.Spans.{has_row_spans, Span}
 use Rattle.pg_fit.specs.Rows.{row_height}
@@ -15,7 +15,7 @@ use Rattle.pg_stream.specs.LiveStreams.{Living, MayEnd, live_text}
 use Rattle.pg_stream.specs.Printing.{Printing, after_row, printer, row_text, finish_lines, finish_text, lines_printed, row_lines}
 use Rattle.pg_stream.specs.SizedStreams.{CountsLines, IsNextHeight}
 use Rattle.pg_stream.proofs.SizedRows.{after_row-by, count-lines, row_text-by}
-use Rattle.ruled_table.specs.Layouts.{cells_of, heights_of, start_of, cells_within, but_last, extents_in, layout_by, layout_of, measured_in, places_in, plan_by, plan_fault, sizes_fault_by}
+use Rattle.ruled_table.specs.Layouts.{cells_of, heights_of, start_of, cells_within, extents_in, fields_in, layout_by, layout_of, measured_in, places_in, plan_by, plan_fault, sizes_fault_by}
 use Rattle.ruled_table.specs.Layouts.{abridged, note_of, shown_columns, Plan, plan_of, table_of, whole_of, whole_text}
 use Rattle.ruled_table.specs.Columns.{ellipsis, fields_at, texts_at}
 use Rattle.ruled_table.specs.Sides.{extents_of, pointed_fields, pointed_row, ruler_of}
@@ -413,18 +413,13 @@ extents-lent options rows places lent extents also at are =
     ∙ ap (λ (ps : List (Option ℕ)). extents_of options ps (texts_at ps rows) fields) (also ∙ at)
     ∙ ap (λ (texts : List (List Text)). extents_of options own texts fields) (sym (map-map (fields_at own) fields_of rows))
 
-pub but-last-map : {X Y : Type 0} (f : X → Y) (xs : List X) → map f (but_last xs) ≡ but_last (map f xs)
-but-last-map f xs = sym (take-map f (length xs - 1) xs) ∙ ap (λ (n : ℕ). take (n - 1) (map f xs)) (sym (length-map xs f))
-
 -- the plan that is made of its parts
-pub plan-made : (options : Options) (extents : List Extent) (places : List (Option ℕ)) (note below : Text) (measured rows : List (List Text)) (config : Config) (width : ℕ → ℕ) → rows ≡ but_last measured → config ≡ first_config options rows
-    → width ≡ widths_of options config measured → below ≡ note → plan_of places config width below extents ≡ plan_by options extents places note measured
-plan-made options extents places note below measured rows config width above looks wide same =
-    let config-is : config ≡ first_config options (but_last measured) = looks ∙ ap (first_config options) above in
-    ap (λ (n : Text). plan_of places config width n extents) same
-    ∙ ap₂ (λ (c : Config) (w : ℕ → ℕ). plan_of places c w note extents) config-is (wide ∙ ap (λ (c : Config). widths_of options c measured) config-is)
+pub plan-made : (options : Options) (extents : List Extent) (places : List (Option ℕ)) (note : Text) (fields measured : List (List Text)) (config : Config) (width : ℕ → ℕ) → config ≡ first_config options fields
+    → width ≡ widths_of options config fields measured → plan_of places config width note extents ≡ plan_by options extents places note fields measured
+plan-made options extents places note fields measured config width looks wide =
+    ap₂ (λ (c : Config) (w : ℕ → ℕ). plan_of places c w note extents) looks (wide ∙ ap (λ (c : Config). widths_of options c fields measured) looks)
 
-module _ (options : Options) (rows : List (List Text)) (places : List (Option ℕ)) (extents : List Extent) (ruler : List Text) (measured : List Row) (at : places ≡ places_in options rows)
+module _ (options : Options) (rows : List (List Text)) (places : List (Option ℕ)) (extents : List Extent) (ruler : List Text) (fields measured : List Row) (at : places ≡ places_in options rows) (own : map fields_of fields ≡ rows)
     (long : extents ≡ extents_in options rows) (is : ruler ≡ ruler_of extents (length (slice_index_or rows 0 []))) (are : map fields_of measured ≡ map (map (shown_text options)) rows ++ ruler ∷ []) where
   -- the texts of both
   lent-measured : texts_at places measured ≡ measured_in options rows
@@ -434,18 +429,23 @@ module _ (options : Options) (rows : List (List Text)) (places : List (Option �
       ∙ ap (λ (r : List Text). map (shown_row options places) rows ++ fields_at places r ∷ []) (is ∙ ap (λ (es : List Extent). ruler_of es fields) long)
       ∙ ap (λ (ps : List (Option ℕ)). map (shown_row options ps) rows ++ fields_at ps (ruler_of (extents_in options rows) fields) ∷ []) at
 
-  -- their layout, and what is wrong with their sizes
-  pub layout-lent : layout_by options places (texts_at places measured) extents ≡ layout_of options rows
-  layout-lent =
-      ap₂ (λ (ps : List (Option ℕ)) (texts : List (List Text)). layout_by options ps texts extents) at lent-measured
-      ∙ ap (layout_by options (places_in options rows) (measured_in options rows)) long
+  lent-fields : texts_at places fields ≡ fields_in options rows
+  lent-fields = sym (map-map (fields_at places) fields_of fields) ∙ ap₂ (λ (ps : List (Option ℕ)) (texts : List (List Text)). map (fields_at ps) texts) at own
 
-  pub sizes-lent : sizes_fault_by options places (texts_at places measured) ≡ sizes_fault_by options (places_in options rows) (measured_in options rows)
-  sizes-lent = ap₂ (sizes_fault_by options) at lent-measured
+  -- their layout, and what is wrong with their sizes
+  pub layout-lent : layout_by options places (texts_at places fields) (texts_at places measured) extents ≡ layout_of options rows
+  layout-lent =
+      ap₂ (λ (ps : List (Option ℕ)) (texts : List (List Text)). layout_by options ps (texts_at places fields) texts extents) at lent-measured
+      ∙ ap₂ (λ (own : List (List Text)) (es : List Extent). layout_by options (places_in options rows) own (measured_in options rows) es) lent-fields long
+
+  pub sizes-lent : sizes_fault_by options places (texts_at places fields) (texts_at places measured) ≡ sizes_fault_by options (places_in options rows) (fields_in options rows) (measured_in options rows)
+  sizes-lent =
+      ap₂ (λ (ps : List (Option ℕ)) (texts : List (List Text)). sizes_fault_by options ps (texts_at places fields) texts) at lent-measured
+      ∙ ap (λ (own : List (List Text)). sizes_fault_by options (places_in options rows) own (measured_in options rows)) lent-fields
 
 -- ---- columns that are left out, or none
 
-module _ (options : Options) (places : List (Option ℕ)) (measured : List (List Text)) (shown columns : ℕ) (is : shown ≡ shown_columns options measured columns) (many : columns ≡ length places) where
+module _ (options : Options) (places : List (Option ℕ)) (fields measured : List (List Text)) (shown columns : ℕ) (is : shown ≡ shown_columns options measured columns) (many : columns ≡ length places) where
   stays : shown_columns options measured (length places) ≡ shown
   stays = sym (is ∙ ap (shown_columns options measured) many)
 
@@ -453,23 +453,23 @@ module _ (options : Options) (places : List (Option ℕ)) (measured : List (List
     none : nat_lt (shown_columns options measured (length places)) (length places) ≡ false
     none = rw stays (grind (arith, nat_tests, all, many))
 
-    pub all-laid : (extents : List Extent) → plan_by options extents places [] measured ≡ layout_by options places measured extents
+    pub all-laid : (extents : List Extent) → plan_by options extents places [] fields measured ≡ layout_by options places fields measured extents
     all-laid extents = rw none refl
 
-    pub all-fault : plan_fault options measured ≡ sizes_fault_by options places measured
+    pub all-fault : plan_fault options fields measured ≡ sizes_fault_by options places fields measured
     all-fault = rw none refl
 
   module _ (few : shown < columns) where
     some : nat_lt (shown_columns options measured (length places)) (length places) ≡ true
     some = rw stays (grind (arith, nat_tests, few, many))
 
-    pub some-laid : (extents : List Extent) → plan_by options extents (abridged shown None places) (note_of columns shown) (map (abridged shown ellipsis) measured) ≡ layout_by options places measured extents
+    pub some-laid : (extents : List Extent) → plan_by options extents (abridged shown None places) (note_of columns shown) (map (abridged shown ellipsis) fields) (map (abridged shown ellipsis) measured) ≡ layout_by options places fields measured extents
     some-laid extents =
-        ap₂ (λ (s c : ℕ). plan_by options extents (abridged s None places) (note_of c s) (map (abridged s ellipsis) measured)) (sym stays) many
+        ap₂ (λ (s c : ℕ). plan_by options extents (abridged s None places) (note_of c s) (map (abridged s ellipsis) fields) (map (abridged s ellipsis) measured)) (sym stays) many
         ∙ rw some refl
 
-    pub some-fault : plan_fault options (map (abridged shown ellipsis) measured) ≡ sizes_fault_by options places measured
-    some-fault = ap (λ (s : ℕ). plan_fault options (map (abridged s ellipsis) measured)) (sym stays) ∙ rw some refl
+    pub some-fault : plan_fault options (map (abridged shown ellipsis) fields) (map (abridged shown ellipsis) measured) ≡ sizes_fault_by options places fields measured
+    some-fault = ap (λ (s : ℕ). plan_fault options (map (abridged s ellipsis) fields) (map (abridged s ellipsis) measured)) (sym stays) ∙ rw some refl
 
 -- ---- their lines, and the end of the table, are its picture
 

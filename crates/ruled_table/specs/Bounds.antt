@@ -64,14 +64,15 @@ widest_text rows column = greatest (map (λ row. text_width_of (slice_index_or r
 abbrev pub are_counted : List Row → Bool
 are_counted records = list_all (λ row. nat_lt (length row.bytes) (2 ^ 63)) records
 
-module _ (options : Options) (rows : List (List Text)) where
+-- of rows with these fields, and the texts that are shown of them
+module _ (options : Options) (fields rows : List (List Text)) where
   -- with enough room a column is as wide as its widest text, with a space at each side, and its limit allow
   abbrev pub natural_of : ℕ → ℕ
   natural_of column = min (widest_text rows column + 2) (limit_of (told_of options.bounds.limits.items column))
 
   -- Columns of numbers keep room for their numbers, while others have at least two columns for their texts.
   abbrev pub least_of : ℕ → ℕ
-  least_of column = if is_numeric options (body_of options.has_header rows) column then widest_text (body_of options.has_header rows) column + 2 else 4
+  least_of column = if is_numeric options (body_of options.has_header fields) column then widest_text (body_of options.has_header rows) column + 2 else 4
 
   abbrev pub range_of : ℕ → ColumnRange
   range_of column = record { least = min (natural_of column) (least_of column); natural = natural_of column }

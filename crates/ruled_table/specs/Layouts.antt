@@ -130,58 +130,62 @@ plan_in measures = plan_of measures.places measures.config (λ column. slice_ind
 
 -- ---- what the first rows say
 
--- the others of a list
-abbrev pub but_last : {X : Type 0} → List X → List X
-but_last xs = take (length xs - 1) xs
-
--- Texts of columns with these places, of which the last row isn't drawn, the extents of their fields, and the line below their table. All columns are drawn.
-module _ (options : Options) (extents : List Extent) (places : List (Option ℕ)) (note : Text) (measured : List (List Text)) where
+-- Fields in columns with these places, the texts that are shown of them, with a row below that isn't drawn, the extents of the fields, and the line below their table.
+-- All columns are drawn.
+module _ (options : Options) (extents : List Extent) (places : List (Option ℕ)) (note : Text) (fields measured : List (List Text)) where
   abbrev pub config_by : Config
-  config_by = first_config options (but_last measured)
+  config_by = first_config options fields
 
   abbrev pub plan_by : Plan
-  plan_by = plan_of places config_by (widths_of options config_by measured) note extents
+  plan_by = plan_of places config_by (widths_of options config_by fields measured) note extents
 
 -- their sizes are too large
-abbrev pub plan_fault : Options → List (List Text) → Option ViewFault
-plan_fault options measured = totals_of (widths_fault options (first_config options (but_last measured)) measured)
+abbrev pub plan_fault : Options → List (List Text) → List (List Text) → Option ViewFault
+plan_fault options fields measured = totals_of (widths_fault options (first_config options fields) fields measured)
 
--- Of such texts those in the middle are left out where they have no room, and a `…` is in their place.
-module _ (options : Options) (places : List (Option ℕ)) (measured : List (List Text)) where
+-- Of such columns those in the middle are left out where they have no room, and a `…` is in their place.
+module _ (options : Options) (places : List (Option ℕ)) (fields measured : List (List Text)) where
   abbrev pub shown_in : ℕ
   shown_in = shown_columns options measured (length places)
 
   abbrev pub layout_by : List Extent → Plan
   layout_by extents =
       if nat_lt shown_in (length places)
-      then plan_by options extents (abridged shown_in None places) (note_of (length places) shown_in) (map (abridged shown_in ellipsis) measured)
-      else plan_by options extents places [] measured
+      then plan_by options extents (abridged shown_in None places) (note_of (length places) shown_in) (map (abridged shown_in ellipsis) fields) (map (abridged shown_in ellipsis) measured)
+      else plan_by options extents places [] fields measured
 
   abbrev pub sizes_fault_by : Option ViewFault
-  sizes_fault_by = if nat_lt shown_in (length places) then plan_fault options (map (abridged shown_in ellipsis) measured) else plan_fault options measured
+  sizes_fault_by =
+      if nat_lt shown_in (length places)
+      then plan_fault options (map (abridged shown_in ellipsis) fields) (map (abridged shown_in ellipsis) measured)
+      else plan_fault options fields measured
 
 module _ (options : Options) (first : List (List Text)) where
   abbrev pub places_in : List (Option ℕ)
   places_in = places_of options.columns.items first
 
-  -- the texts that are shown of the first rows
+  -- the fields of the first rows
+  abbrev pub fields_in : List (List Text)
+  fields_in = map (fields_at places_in) first
+
+  -- the texts that are shown of them
   abbrev pub texts_in : List (List Text)
   texts_in = map (shown_row options places_in) first
 
   -- the extents of their fields
   abbrev pub extents_in : List Extent
-  extents_in = extents_of options places_in (map (fields_at places_in) first) (length (slice_index_or first 0 []))
+  extents_in = extents_of options places_in fields_in (length (slice_index_or first 0 []))
 
   -- with a ruler below them
   abbrev pub measured_in : List (List Text)
   measured_in = texts_in ++ fields_at places_in (ruler_of extents_in (length (slice_index_or first 0 []))) ∷ []
 
   abbrev pub layout_of : Plan
-  layout_of = layout_by options places_in measured_in extents_in
+  layout_of = layout_by options places_in fields_in measured_in extents_in
 
   -- no column has one of the names, or their sizes are too large
   abbrev pub layout_fault : Option ViewFault
-  layout_fault = option_or (column_fault options.columns.items first) (sizes_fault_by options places_in measured_in)
+  layout_fault = option_or (column_fault options.columns.items first) (sizes_fault_by options places_in fields_in measured_in)
 
 -- ---- the table of rows
 

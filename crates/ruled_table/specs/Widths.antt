@@ -45,28 +45,28 @@ pub record HasSpaces (config : Config) : Type 0 where
 abbrev pub widths_in : {A : Type 0} → ConstantDimension A → ℕ → ℕ
 widths_in sizes = λ column. slice_index_or sizes.0.items column 0
 
--- those of the table of these rows: at its natural sizes, within bounds, and within them where some are told
+-- those of the table of these rows: at its natural sizes, within bounds, and within them where some are told, by the fields of which columns have numbers
 abbrev pub natural_widths : Config → List (List Text) → List ℕ
 natural_widths config rows = natural.natural_sizes Columns config rows (columns_of rows)
 
-abbrev pub fitted_widths : Options → Config → List (List Text) → ℕ → ℕ
-fitted_widths options config rows =
-    (fitted_table options.bounds.overflow (width_of options.bounds.width) (kept_limits options rows config) config rows (columns_of rows) (λ place. None)).width
+abbrev pub fitted_widths : Options → Config → List (List Text) → List (List Text) → ℕ → ℕ
+fitted_widths options config fields rows =
+    (fitted_table options.bounds.overflow (width_of options.bounds.width) (kept_limits options fields rows config) config rows (columns_of rows) (λ place. None)).width
 
-abbrev pub widths_of : Options → Config → List (List Text) → ℕ → ℕ
-widths_of options config rows = if are_told options.bounds then fitted_widths options config rows else (natural_table config rows (columns_of rows) (λ place. None)).width
+abbrev pub widths_of : Options → Config → List (List Text) → List (List Text) → ℕ → ℕ
+widths_of options config fields rows = if are_told options.bounds then fitted_widths options config fields rows else (natural_table config rows (columns_of rows) (λ place. None)).width
 
 -- why they aren't told: within bounds that of the texts that are fitted to them
 abbrev pub natural_fault : Config → List (List Text) → Option TableFault
 natural_fault config rows = sizes_fault config rows (columns_of rows)
 
-abbrev pub fitted_fault : Options → Config → List (List Text) → Option TableFault
-fitted_fault options config rows =
-    let texts = fitted_texts options.bounds.overflow (width_of options.bounds.width) (kept_limits options rows config) config rows (columns_of rows) in
+abbrev pub fitted_fault : Options → Config → List (List Text) → List (List Text) → Option TableFault
+fitted_fault options config fields rows =
+    let texts = fitted_texts options.bounds.overflow (width_of options.bounds.width) (kept_limits options fields rows config) config rows (columns_of rows) in
     option_or (fit_fault config rows (columns_of rows)) (sizes_fault config texts (columns_of rows))
 
-abbrev pub widths_fault : Options → Config → List (List Text) → Option TableFault
-widths_fault options config rows = if are_told options.bounds then fitted_fault options config rows else natural_fault config rows
+abbrev pub widths_fault : Options → Config → List (List Text) → List (List Text) → Option TableFault
+widths_fault options config fields rows = if are_told options.bounds then fitted_fault options config fields rows else natural_fault config rows
 
 -- ---- texts within their columns
 

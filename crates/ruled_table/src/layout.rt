@@ -49,11 +49,13 @@ impl Model for Layout {
     ghost invariant = { λ l. l.config.spans ≡ [] };
 }
 
-// The rows above the ruler.
-fn above_ruler(measured: &[TextRow]) -> &[TextRow]
-    ensures { result.now ≡ spec.but_last measured.now }
-{
-    &measured[..measured.len().saturating_sub(1)]
+/// The first rows of a table.
+#[derive(Drop)]
+struct FirstRows<'a> {
+    /// Their fields.
+    fields: &'a [TextRow],
+    /// The texts that are shown of them, and a ruler below them.
+    measured: &'a [TextRow],
 }
 
 // Whether each field of each of these rows is shown as it stands.
@@ -154,7 +156,11 @@ impl Layout {
         let ruler = ruler_of(alloc, &extents, fields_in(first))?;
         let end = first.len();
         rows.insert(end, ruler)?;
-        let layout = Layout::of_measured(alloc, options, places, extents, first_of(rows, end + 1));
+        let measured = FirstRows {
+            fields: first_of(rows, end),
+            measured: first_of(rows, end + 1),
+        };
+        let layout = Layout::of_measured(alloc, options, places, extents, measured);
         rows.remove(end);
         layout
     }
@@ -174,65 +180,65 @@ impl Layout {
         let copies = Vec::from_clones(alloc, first)?;
         let mut measured = shown_records(alloc, options, copies)?;
         measured.push(ruler)?;
-        Layout::of_measured(alloc, options, places, extents, &measured)
+        let rows = FirstRows {
+            fields: first,
+            measured: &measured,
+        };
+        Layout::of_measured(alloc, options, places, extents, rows)
     }
 
-    // The layout of rows of which the last one is a ruler, by the places of their columns, some of
-    // which may be left out, and the extents of their fields.
+    // The layout of these rows, by the places of their columns, some of which may be left out, and
+    // the extents of their fields.
     fn of_measured(
         alloc: Global,
         options: &Options,
         mut places: Vec<Option<usize>>,
         extents: Vec<Extent>,
-        measured: &[TextRow],
+        rows: FirstRows<'_>,
     ) -> Result<Layout, ViewFault>
-        ensures layout { IfOk result (λ layout. plan_in layout ≡ spec.layout_by options.now places.items (texts_at places.items measured.now) extents.items) }
-        ensures fault { Tells (spec.sizes_fault_by options.now places.items (texts_at places.items measured.now)) result }
+        ensures layout { IfOk result (λ layout. plan_in layout
+            ≡ spec.layout_by options.now places.items (texts_at places.items rows.entry.fields.now) (texts_at places.items rows.entry.measured.now) extents.items) }
+        ensures fault { Tells (spec.sizes_fault_by options.now places.items (texts_at places.items rows.entry.fields.now) (texts_at places.items rows.entry.measured.now)) result }
     {
         let columns = places.len();
-        let rows = LentRows {
-            records: measured,
+        let measured = LentRows {
+            records: rows.measured,
             places: &places,
         };
-        let shown = shown_columns(alloc, options, rows)?;
+        let shown = shown_columns(alloc, options, measured)?;
         if shown >= columns {
-            return Layout::of_columns(
-                alloc,
-                options,
-                places,
-                extents,
-                String::new(alloc),
-                measured,
-            );
+            let note = String::new(alloc);
+            return Layout::of_columns(alloc, options, places, extents, note, rows);
         }
         let note = note_of(alloc, columns, shown)?;
         abridge(&mut places, shown);
-        Layout::of_columns(alloc, options, places, extents, note, measured)
+        Layout::of_columns(alloc, options, places, extents, note, rows)
     }
 
-    // The layout of rows of which the last one is a ruler, by the places of the columns that are
-    // drawn, with the extents of their fields and this line below them.
+    // The layout of these rows, by the places of the columns that are drawn, with the extents of
+    // their fields and this line below them.
     fn of_columns(
         alloc: Global,
         options: &Options,
         places: Vec<Option<usize>>,
         extents: Vec<Extent>,
         note: String,
-        measured: &[TextRow],
+        rows: FirstRows<'_>,
     ) -> Result<Layout, ViewFault>
-        ensures layout { IfOk result (λ layout. plan_in layout ≡ spec.plan_by options.now extents.items places.items (string_bytes note) (texts_at places.items measured.now)) }
-        ensures fault { Tells (spec.plan_fault options.now (texts_at places.items measured.now)) result }
+        ensures layout { IfOk result (λ layout. plan_in layout
+            ≡ spec.plan_by options.now extents.items places.items (string_bytes note) (texts_at places.items rows.entry.fields.now) (texts_at places.items rows.entry.measured.now)) }
+        ensures fault { Tells (spec.plan_fault options.now (texts_at places.items rows.entry.fields.now) (texts_at places.items rows.entry.measured.now)) result }
     {
-        let rows = LentRows {
-            records: above_ruler(measured),
+        let fields = LentRows {
+            records: rows.fields,
             places: &places,
         };
-        let config = first_config(alloc, options, rows)?;
-        let ruled = LentRows {
-            records: measured,
+        let config = first_config(alloc, options, fields)?;
+        let measured = LentRows {
+            records: rows.measured,
             places: &places,
         };
-        let widths = sizes_of_rows(alloc, options, &config, ruled)?;
+        let widths = sizes_of_rows(alloc, options, &config, fields, measured)?;
         Ok(Layout {
             places,
             config,

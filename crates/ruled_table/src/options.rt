@@ -61,7 +61,7 @@ pub struct Options {
     /// `None`, is right-aligned if each text below the header is a number, blank, `⋮` or one of `missing`, else
     /// left-aligned.
     pub sides: Vec<Option<Side>>,
-    /// Texts that count as blank when the side of a column is chosen.
+    /// Texts that count as blank. Fields are compared with them as the input has them, however they are shown.
     pub missing: Vec<String>,
     /// Row 0, which is in front of all rows of the input, with an empty name for each further column of their first one.
     /// If no name is listed, row 0 is the first row of the input.

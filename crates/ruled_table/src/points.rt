@@ -10,7 +10,7 @@ use crate::columns::{field_at, told_of};
 use crate::lent_rows::{LentRows, text_in};
 use crate::numbers::is_number;
 use crate::options::{Options, Side};
-use crate::sides::{body_of, is_numeric};
+use crate::sides::{is_numeric, lent_body};
 use ruled_row::TextRow;
 use std::alloc::{AllocError, Global};
 
@@ -83,10 +83,7 @@ fn is_point(side: Option<Side>) -> bool
 fn is_pointed(options: &Options, rows: LentRows<'_>, column: usize) -> bool
     ensures { result ≡ spec.is_pointed options.now (texts_of rows.entry) column }
 {
-    let body = LentRows {
-        records: body_of(options.has_header, rows.records),
-        places: rows.places,
-    };
+    let body = lent_body(options, rows);
     is_point(told_of(&options.sides, column)) && is_numeric(options, body, column)
 }
 

@@ -13,7 +13,7 @@ use crate::columns::{drawn_at, field_at, told_of};
 use crate::lent_rows::{LentRows, text_in};
 use crate::options::Options;
 use crate::rows::has_plain_fields;
-use crate::sides::{body_of, is_numeric};
+use crate::sides::{is_numeric, lent_body};
 use pg_config::SpannedConfig;
 use pg_fit::{ColumnRange, narrow};
 use pg_layout::{Records, get_text_width};
@@ -80,40 +80,43 @@ pub(crate) fn widest_texts(alloc: Global, rows: LentRows<'_>) -> Result<Vec<usiz
 }
 
 // How narrow a column may get before columns of numbers are cut, and how wide it is with enough room.
-fn range_of(options: &Options, rows: LentRows<'_>, column: usize) -> ColumnRange
-    ensures { result ≡ spec.range_of options.now (texts_of rows.entry) column }
+fn range_of(
+    options: &Options,
+    fields: LentRows<'_>,
+    rows: LentRows<'_>,
+    column: usize,
+) -> ColumnRange
+    ensures { result ≡ spec.range_of options.now (texts_of fields.entry) (texts_of rows.entry) column }
 {
     let limit = limit_of(told_of(&options.bounds.limits, column));
     let natural = widest_text(rows, column).saturating_add(2).min(limit);
-    let body = LentRows {
-        records: body_of(options.has_header, rows.records),
-        places: rows.places,
-    };
-    if !is_numeric(options, body, column) {
+    if !is_numeric(options, lent_body(options, fields), column) {
         return ColumnRange {
             least: natural.min(4),
             natural,
         };
     }
+    let body = lent_body(options, rows);
     ColumnRange {
         least: natural.min(widest_text(body, column).saturating_add(2)),
         natural,
     }
 }
 
-/// The greatest widths of the columns of these rows, so that those of numbers are narrowed last.
+/// The greatest widths of the columns of these rows, which show these fields, so that those of numbers are narrowed last.
 pub(crate) fn kept_limits(
     alloc: Global,
     options: &Options,
     config: &SpannedConfig,
+    fields: LentRows<'_>,
     rows: LentRows<'_>,
 ) -> Result<Vec<usize>, AllocError>
-    ensures { IfOk result (λ limits. limits.items ≡ spec.kept_limits options.now (texts_of rows.entry) config.now) }
+    ensures { IfOk result (λ limits. limits.items ≡ spec.kept_limits options.now (texts_of fields.entry) (texts_of rows.entry) config.now) }
 {
     let columns = rows.count_columns();
     let mut ranges = Vec::with_capacity(alloc, columns)?;
     for column in 0..columns {
-        ranges.push(range_of(options, rows, column))?;
+        ranges.push(range_of(options, fields, rows, column))?;
     }
     let room = options
         .bounds

@@ -69,14 +69,21 @@ pub(crate) fn body_of(has_header: bool, records: &[TextRow]) -> &[TextRow]
     }
 }
 
+/// The rows below a header.
+pub(crate) fn lent_body<'a>(options: &Options, rows: LentRows<'a>) -> LentRows<'a>
+    ensures { texts_of result ≡ spec.body_of options.now.has_header (texts_of rows.entry) }
+{
+    LentRows {
+        records: body_of(options.has_header, rows.records),
+        places: rows.places,
+    }
+}
+
 // The side of a column.
 fn side_of(options: &Options, rows: LentRows<'_>, column: usize) -> AlignmentHorizontal
     ensures { result ≡ spec.side_of options.now (texts_of rows.entry) column }
 {
-    let body = LentRows {
-        records: body_of(options.has_header, rows.records),
-        places: rows.places,
-    };
+    let body = lent_body(options, rows);
     match told_of(&options.sides, column) {
         Some(Side::To(side)) => side,
         _ if is_numeric(options, body, column) => AlignmentHorizontal::Right,

@@ -66,52 +66,55 @@ fn natural_sizes(
     NaturalTable::new(records, config, &NoColors).natural_dimension(alloc)
 }
 
-// The sizes of a table of these records within the bounds that are set.
+// The sizes of a table of these records, which show these fields, within the bounds that are set.
 fn fitted_sizes(
     alloc: Global,
     options: &Options,
     config: &SpannedConfig,
+    fields: LentRows<'_>,
     records: LentRows<'_>,
 ) -> Result<ConstantDimension, TableFault>
-    ensures fault { spec.TellsTable (spec.fitted_fault options.now config.now (texts_of records.entry)) result }
-    ensures widths { IfOk result (λ sizes. spec.widths_in sizes ≡ spec.fitted_widths options.now config.now (texts_of records.entry)) }
+    ensures fault { spec.TellsTable (spec.fitted_fault options.now config.now (texts_of fields.entry) (texts_of records.entry)) result }
+    ensures widths { IfOk result (λ sizes. spec.widths_in sizes ≡ spec.fitted_widths options.now config.now (texts_of fields.entry) (texts_of records.entry)) }
 {
     let bounds = &options.bounds;
-    let limits = kept_limits(alloc, options, config, records)?;
+    let limits = kept_limits(alloc, options, config, fields, records)?;
     let table = NaturalTable::new(records, config, &NoColors);
     let fitted = table.within_limits(alloc, bounds.width(), &limits, bounds.overflow)?;
     fitted.natural_dimension(alloc)
 }
 
-// The sizes of a table of these records within its bounds.
+// The sizes of a table of these records, which show these fields, within its bounds.
 fn sizes_of(
     alloc: Global,
     options: &Options,
     config: &SpannedConfig,
+    fields: LentRows<'_>,
     records: LentRows<'_>,
 ) -> Result<ConstantDimension, TableFault>
     requires { spec.HasSpaces config.now }
-    ensures widths { IfOk result (λ sizes. spec.widths_in sizes ≡ spec.widths_of options.now config.now (texts_of records.entry)) }
-    ensures fault { spec.TellsTable (spec.widths_fault options.now config.now (texts_of records.entry)) result }
+    ensures widths { IfOk result (λ sizes. spec.widths_in sizes ≡ spec.widths_of options.now config.now (texts_of fields.entry) (texts_of records.entry)) }
+    ensures fault { spec.TellsTable (spec.widths_fault options.now config.now (texts_of fields.entry) (texts_of records.entry)) result }
 {
     if options.bounds.are_told() {
-        return fitted_sizes(alloc, options, config, records);
+        return fitted_sizes(alloc, options, config, fields, records);
     }
     natural_sizes(alloc, config, records)
 }
 
-/// The sizes that a table of these rows has within the bounds.
+/// The sizes that a table of these rows, which show these fields, has within the bounds.
 pub fn sizes_of_rows(
     alloc: Global,
     options: &Options,
     config: &SpannedConfig,
+    fields: LentRows<'_>,
     rows: LentRows<'_>,
 ) -> Result<ConstantDimension, ViewFault>
     requires { spec.HasSpaces config.now }
-    ensures widths { IfOk result (λ sizes. spec.widths_in sizes ≡ spec.widths_of options.now config.now (texts_of rows.entry)) }
-    ensures fault { Tells (totals_of (spec.widths_fault options.now config.now (texts_of rows.entry))) result }
+    ensures widths { IfOk result (λ sizes. spec.widths_in sizes ≡ spec.widths_of options.now config.now (texts_of fields.entry) (texts_of rows.entry)) }
+    ensures fault { Tells (totals_of (spec.widths_fault options.now config.now (texts_of fields.entry) (texts_of rows.entry))) result }
 {
-    sizes_of(alloc, options, config, rows).map_err(fault_in)
+    sizes_of(alloc, options, config, fields, rows).map_err(fault_in)
 }
 
 // A text, unchanged if it takes at most so many columns, else cut to them.

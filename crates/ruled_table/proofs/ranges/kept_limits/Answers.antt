@@ -8,7 +8,7 @@ use Rattle.ruled_table.proofs.ranges.kept_limits.Goals as goal
 pub loop-column-preserved : goal.loop-column-preserved
 loop-column-preserved c =
     let n : ℕ = c.loop-column.column in
-    let f : ℕ → ColumnRange = range_of c.args.options.now (texts_of c.args.rows) in
+    let f : ℕ → ColumnRange = range_of c.args.options.now (texts_of c.args.fields) (texts_of c.args.rows) in
     c.in_ok-push.ensures.items
     ∙ ap (λ (x : ColumnRange). c.loop-column.ranges.items ++ x ∷ []) c.range_of.ensures
     ∙ ap (λ (xs : List ColumnRange). xs ++ f n ∷ []) c.loop-column.invariant

@@ -25,14 +25,14 @@ returns-clause-fault c =
     let columns : ℕ = columns_of texts in
     let fitted = c.in_ok-fitted.fitted in
     let table : ℕ → List ℕ → Table = λ width limits. fitted_table bounds.overflow width limits config texts columns (λ place. None) in
-    let limits : c.deref.result.now ≡ kept_limits options texts config = c.deref.ensures.value ∙ c.in_ok-limits.ensures in
+    let limits : c.deref.result.now ≡ kept_limits options (texts_of c.args.fields) texts config = c.deref.ensures.value ∙ c.in_ok-limits.ensures in
     let drawn =
     c.in_ok-fitted.ensures.table
     ∙ ap (λ parts. fitted_of bounds.overflow c.width.result c.deref.result.now texts_of columns_in (λ colors place. None) parts) c.new-table.ensures
     ∙ ap (λ (n : ℕ). table n c.deref.result.now) c.width.ensures
     ∙ ap (table (width_of bounds.width)) limits
     in
-    let all : List ℕ = kept_limits options texts config in
+    let all : List ℕ = kept_limits options (texts_of c.args.fields) texts config in
     let later : Option TableFault = sizes_fault config (fitted_texts bounds.overflow (width_of bounds.width) all config texts columns) columns in
     let same = drawn-sizes-fault fitted.widths.items (spanned_widths bounds.overflow (width_of bounds.width) all config texts columns) fitted.config.now config (overlaid texts_of columns_in fitted.records) (fitted_texts bounds.overflow (width_of bounds.width) all config texts columns) (columns_in fitted.records.records) columns (λ place. None) (λ place. None) drawn in
     let none = table-told (fit_fault config texts columns) _ (Ok fitted) (ap (λ parts. fit_fault_of texts_of columns_in parts) c.new-table.ensures) c.in_ok-fitted.ensures.fault c.in_ok-fitted.ensures.memory in
@@ -45,10 +45,10 @@ returns-clause-widths c =
     let config = c.args.config.now in
     let texts : List (List Text) = texts_of c.args.records in
     let table : ℕ → List ℕ → Table = λ width limits. fitted_table bounds.overflow width limits config texts (columns_of texts) (λ place. None) in
-    let limits : c.deref.result.now ≡ kept_limits options texts config = c.deref.ensures.value ∙ c.in_ok-limits.ensures in
+    let limits : c.deref.result.now ≡ kept_limits options (texts_of c.args.fields) texts config = c.deref.ensures.value ∙ c.in_ok-limits.ensures in
     let drawn =
     c.in_ok-fitted.ensures.table
     ∙ ap (λ parts. fitted_of bounds.overflow c.width.result c.deref.result.now texts_of columns_in (λ colors place. None) parts) c.new-table.ensures
     in
-    widths-are c.natural_dimension.result _ (table (width_of bounds.width) (kept_limits options texts config)).width c.natural_dimension.ensures.widths
+    widths-are c.natural_dimension.result _ (table (width_of bounds.width) (kept_limits options (texts_of c.args.fields) texts config)).width c.natural_dimension.ensures.widths
     (ap (λ (t : Table). t.width) (drawn ∙ ap (λ (n : ℕ). table n c.deref.result.now) c.width.ensures ∙ ap (table (width_of bounds.width)) limits))

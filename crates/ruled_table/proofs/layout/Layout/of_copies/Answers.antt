@@ -1,11 +1,11 @@
-use Rattle.std.proofs.Common.{◌≡◌, ◌∙◌, ◌∷◌, ◌++◌, [], List, length, map, slice_index_or, None, Option, ap, ap₂, subst, rules}
+use Rattle.std.proofs.Common.{◌≡◌, ◌∙◌, ◌∷◌, ◌++◌, [], List, length, map, slice_index_or, None, Option, ap, ap₂, refl, subst, rules}
 use Rattle.std.specs.Prelude.{IfOk}
 use Rattle.std.proofs.lemmas.List.{map-append}
 use Rattle.csv.specs.Records.{Row, fields_of}
 use Rattle.pg_layout.specs.Text.{Text}
 use Rattle.ruled_table.specs.Columns.{column_fault}
 use Rattle.ruled_table.specs.Tables.{Tells}
-use Rattle.ruled_table.specs.Layouts.{extents_in, measured_in, places_in, sizes_fault_by, Plan, plan_in}
+use Rattle.ruled_table.specs.Layouts.{extents_in, fields_in, measured_in, places_in, sizes_fault_by, Plan, plan_in}
 use Rattle.ruled_table.specs.Sides.{ruler_of}
 use Rattle.ruled_table.specs.Shown.{shown_text}
 use Rattle.ruled_table.specs.declared.view.ViewFault.{ViewFault}
@@ -32,7 +32,7 @@ returns-clause-layout c =
     let are : map fields_of c.deref-4.result.now ≡ map (map (shown_text options)) first ++ fields_of ruler ∷ [] =
     ap (map fields_of) lent ∙ map-append fields_of c.in_ok-measured.measured.items (ruler ∷ []) ∙ ap (λ (texts : List (List Text)). texts ++ fields_of ruler ∷ []) shown
     in
-    subst (λ (plan : Plan). IfOk c.of_measured.result (λ layout. plan_in layout ≡ plan)) (layout-lent options first c.in_ok-places.places.items c.in_ok-extents.extents.items (fields_of ruler) c.deref-4.result.now at long is are) c.of_measured.ensures.layout
+    subst (λ (plan : Plan). IfOk c.of_measured.result (λ layout. plan_in layout ≡ plan)) (layout-lent options first c.in_ok-places.places.items c.in_ok-extents.extents.items (fields_of ruler) rows c.deref-4.result.now at refl long is are) c.of_measured.ensures.layout
 
 pub returns-clause-fault : goal.returns-clause-fault
 returns-clause-fault c =
@@ -54,5 +54,5 @@ returns-clause-fault c =
     ap (map fields_of) lent ∙ map-append fields_of c.in_ok-measured.measured.items (ruler ∷ []) ∙ ap (λ (texts : List (List Text)). texts ++ fields_of ruler ∷ []) shown
     in
     let none : column_fault options.columns.items first ≡ None = rw names at c.in_ok-places.ensures.fault in
-    then_told (column_fault options.columns.items first) (sizes_fault_by options (places_in options first) (measured_in options first)) c.of_measured.result none
-    (subst (λ (fault : Option ViewFault). Tells fault c.of_measured.result) (sizes-lent options first c.in_ok-places.places.items c.in_ok-extents.extents.items (fields_of ruler) c.deref-4.result.now at long is are) c.of_measured.ensures.fault)
+    then_told (column_fault options.columns.items first) (sizes_fault_by options (places_in options first) (fields_in options first) (measured_in options first)) c.of_measured.result none
+    (subst (λ (fault : Option ViewFault). Tells fault c.of_measured.result) (sizes-lent options first c.in_ok-places.places.items c.in_ok-extents.extents.items (fields_of ruler) rows c.deref-4.result.now at refl long is are) c.of_measured.ensures.fault)
