@@ -23,23 +23,36 @@ use std::marker::Model;
 pub struct OverlaidRecords<R, A: Allocator = Global> {
     records: R,
     others: Places<Position, String<A>, A>,
+    // Whether the columns with this remainder have their own texts: in most of them no other one is
+    // set, so that none is searched for their cells.
+    own: [bool; 8],
 }
 
 // Written out, so that a caller's proof has one call when it drops the records.
 impl<R: Drop, A: Allocator> Drop for OverlaidRecords<R, A> {
     fn drop(self) {
-        let OverlaidRecords { records, others } = self;
+        let OverlaidRecords {
+            records,
+            others,
+            own: _,
+        } = self;
         drop(records);
         drop(others);
     }
 }
 
 impl<R, A: Allocator> Model for OverlaidRecords<R, A> {
+    ghost use Rattle.std.specs.Prelude.{◌≡◌, ◌%◌, None, false, true, slice_index_or};
+    ghost use Rattle.pg_layout.specs.Keys.{by_place};
+    ghost use Rattle.pg_layout.specs.Places.{value_at};
+    ghost use Rattle.pg_layout.specs.declared.position.Position.{Position};
     ghost use Rattle.pg_fit.specs.Overlaid.{Overlay};
 
     ghost Value = { Overlay R A };
 
     ghost view = { λ r. record { records = r.records; others = r.others } };
+
+    ghost invariant = { λ r. (p : Position) → slice_index_or r.own (p.col % 8) false ≡ true → value_at by_place p r.others ≡ None };
 }
 
 impl<R, A: Allocator> OverlaidRecords<R, A> {
@@ -50,18 +63,22 @@ impl<R, A: Allocator> OverlaidRecords<R, A> {
         OverlaidRecords {
             records,
             others: Places::new(alloc),
+            own: [true; 8],
         }
     }
 
     /// Sets another text for a place, in place of an earlier one. If memory is refused, nothing
     /// changes.
+    #[tactic(auto, using(crate::proofs::OverlaidTexts::own_columns))]
     pub fn set(&mut self, pos: Position, text: String<A>) -> Result<(), AllocError>
     where
         A: Clone,
         ensures ok { OnOk result (self.new ≡ record self.old { others = with_place by_place pos text self.old.others }) }
         ensures err { OnErr result (self.new ≡ self.old) }
     {
-        self.others.set(pos, text)
+        self.others.set(pos, text)?;
+        self.own[pos.col % 8] = false;
+        Ok(())
     }
 }
 
@@ -73,11 +90,15 @@ impl<R: PeekableRecords + ExactRecords, A: Allocator> OverlaidRecords<R, A> {
         (self.records.count_rows(), self.records.count_columns())
     }
 
+    #[tactic(auto, using(crate::proofs::OverlaidTexts::own_text))]
     fn other_text(&self, pos: Position) -> &str
         requires row { pos.row < length (R.texts self.now.records) }
         requires column { pos.col < R.columns self.now.records }
         ensures { result.now ≡ other_text self.now.others (R.texts self.now.records) pos }
     {
+        if self.own[pos.col % 8] {
+            return self.records.get_text(pos);
+        }
         match self.others.get(pos) {
             Some(text) => text.as_str(),
             None => self.records.get_text(pos),

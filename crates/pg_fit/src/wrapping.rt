@@ -8,7 +8,7 @@ ghost use Rattle.pg_fit.specs.Wrapping.{wrapped, wrapped_line, fits, filled, pie
 use crate::controls::is_printable;
 use crate::filling::{take_characters, take_words};
 use crate::line::{Line, Part};
-use pg_layout::{get_line_width, get_lines};
+use pg_layout::{get_line_width, get_lines, is_plain};
 use std::alloc::{AllocError, Allocator};
 
 /// Where a line may be broken.
@@ -31,7 +31,11 @@ pub fn wrap<A: Allocator>(
 ) -> Result<String<A>, AllocError>
     ensures { IfOk result (λ lines. string_bytes lines ≡ wrapped breaking width text.now) }
 {
-    let mut out = String::new(alloc);
+    let mut out = String::with_capacity(alloc, text.len())?;
+    if is_plain(text.as_bytes()) {
+        push_line(text, width, breaking, &mut out)?;
+        return Ok(out);
+    }
     let mut lines = get_lines(text);
     if let Some(line) = lines.next() {
         push_line(line, width, breaking, &mut out)?;
