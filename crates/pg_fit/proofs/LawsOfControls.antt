@@ -1,27 +1,30 @@
 -- Printable bytes, texts with control characters or without escape sequences, and lines of printable ASCII.
-use Rattle.std.proofs.Common.{ap, eqb, eqb-true, ◌&&◌, ◌≡◌, inl, inr, ◌+◌, ◌-◌, ◌<◌, ◌≤◌, ◌^◌, ◌%◌, ◌*◌, ℕ, suc, true, false, nat_lt, cond, List, [], ◌∷◌, length, get_or, map, replicate}
-use Rattle.std.proofs.Common.{slice_index, zero, chars, Bool, refl, sym, ◌∙◌, w8, arith, not, ◌||◌, ◌++◌, ⊎_elim, ◌⊎◌, ◌==◌, count_by, eq-zero-or-pos, subst, min, length-append}
+use Rattle.std.proofs.Common.{ap, eqb, ◌&&◌, ◌≡◌, inl, inr, ◌+◌, ◌-◌, ◌<◌, ◌≤◌, ◌^◌, ◌%◌, ◌*◌, ℕ, suc, true, false, nat_lt, cond, List, [], ◌∷◌, length, map, replicate}
+use Rattle.std.proofs.Common.{zero, chars, Bool, refl, sym, ◌∙◌, w8, arith, not, ◌||◌, ◌++◌, ⊎_elim, ◌⊎◌, ◌==◌, count_by, eq-zero-or-pos, subst, min, length-append}
 use Rattle.std.specs.List.{list_all, slice_range, range_with_len}
-use Rattle.std.proofs.lemmas.Bool.{cases_lt, and_from, and_parts}
+use Rattle.std.proofs.lemmas.Bool.{and_from, and_parts, ne_eqb}
 use Rattle.std.proofs.lemmas.Bool.Decides.{nat_tests}
 use Rattle.std.proofs.lemmas.List.{length-map}
 use Rattle.std.proofs.lemmas.List.Folds.{list_all-append}
-use Rattle.std.proofs.lemmas.Simd.{bitmask_splat, none_from_empty_mask, length-chunk, mask_l-mod, tops_compared, zip2_splat_left}
+use Rattle.std.proofs.lemmas.List.Sums.{sum_by-cons}
+use Rattle.std.specs.List.{sum_by}
+use Rattle.std.proofs.lemmas.Simd.{bitmask_splat, length-chunk, mask_l-mod, tops_compared, zip2_splat_left}
 use Rattle.std.specs.Str.{IsAscii, IsUtf8, IsCharBoundary, encode_utf8_all}
 use Rattle.std.proofs.lemmas.Str.{chars-IsAscii, chars-append, chars-nil, IsUtf8-between, encodes-chars, scalars-chars, chars-encodes, encode_ascii}
 use lib.Lanes.{zip2, mask_l, top, chunk}
 use mir.Val.{hbits, bits}
-use Rattle.pg_fit.specs.Controls.{is_printable, ArePrintable, is_hidden, is_control, sign_of, visible_text}
+use Rattle.pg_fit.specs.Controls.{is_printable, is_hidden, is_control, sign_of, visible_text, is_letter, letter_columns}
 use Rattle.std.specs.Int.{is_in_range}
 use Rattle.ucd_table.specs.Rows.{Range, in_ranges}
 use Rattle.ucd_table.proofs.Stepped.{Stepped, of_ranges, zip_stepped}
 use Rattle.ucd_table.proofs.Facts.{Stepped-always, Stepped-below}
 use Rattle.ucd_table.proofs.Computing.{tables}
 use Rattle.unicode_width.specs.Kind.{kind}
-use Rattle.unicode_width.specs.Width.{str_width, read_before, plain}
+use Rattle.unicode_width.specs.Width.{str_width, read_before, plain, of_kind, alone as own_width, char_width}
 use Rattle.unicode_width.specs.declared.kind.Kind.{Kind}
+use Rattle.unicode_width.specs.declared.kind.Kind.TheVariants as kinds
 use Rattle.unicode_width.proofs.KindLemmas.{kind_stepped}
-use Rattle.unicode_width.proofs.Rules.{is_simple_kind, is_simple, str_width-append_simple}
+use Rattle.unicode_width.proofs.Rules.{is_simple_kind, is_simple, str_width-append_simple, str_width-simple, width_or_zero}
 use Rattle.unicode_width.proofs.Computing.{unicode_width}
 use Rattle.unicode_segmentation.proofs.TextLemmas.{length-slice_range, slice_range_split}
 use Rattle.pg_layout.specs.Text.{Text, width_of, greatest, is_plain_byte}
@@ -40,6 +43,7 @@ use Rattle.ucd_breaks.proofs.Computing.{ucd_breaks}
 use Rattle.unicode_segmentation.specs.Grapheme.{graphemes, is_grapheme_break}
 use Rattle.unicode_segmentation.specs.Segments.{cut, prepend, segments}
 use Rattle.unicode_segmentation.proofs.GraphemeLemmas.{is_grapheme_break-others}
+use Rattle.pg_layout.proofs.PlainBytes.{same_both}
 use Rattle.pg_layout.proofs.TextLines.{lines_of-one, width_of-plain, feed_place-plain}
 use Rattle.pg_fit.specs.declared.wrapping.Breaking.{Breaking}
 use Rattle.pg_fit.specs.declared.wrapping.Breaking.TheVariants.{Anywhere, BetweenWords}
@@ -48,40 +52,37 @@ use Rattle.pg_fit.proofs.FilledLines.{slice_range-all}
 
 -- ---- printable bytes, and characters that add their own widths to that of the text before them
 
--- ---- printable bytes, told by vectors of them
+-- ---- printable bytes, told by blocks of them
 
-both_sides : (b : ℕ) → nat_lt b 32 ≡ false → nat_lt 126 b ≡ false → is_printable b ≡ true
-both_sides b low high = grind (arith, nat_tests)
+-- no bit is set where no lane passes
+no_bits : (p : ℕ → Bool) (xs : List ℕ) → eqb (mask_l (map p xs)) 0 ≡ list_all (λ x. not (p x)) xs
+no_bits p [] = refl
+no_bits p (x ∷ xs) = with_lane (p x) (mask_l (map p xs)) ∙ ap (λ v. not (p x) && v) (no_bits p xs)
+  where
+    with_lane : (b : Bool) (m : ℕ) → eqb (cond b 1 0 + 2 * m) 0 ≡ (not b && eqb m 0)
+    with_lane true m = ne_eqb (1 + 2 * m) 0 (λ same. omega (arith, same))
+    with_lane false zero = refl
+    with_lane false (suc m) = ne_eqb (0 + 2 * suc m) 0 (λ same. omega (arith, same)) ∙ sym (ne_eqb (suc m) 0 (λ same. omega (arith, same)))
 
-pub printable_run : (bs : List ℕ) (i n : ℕ) → i + n ≤ length bs → mask_l (map (λ b. nat_lt b 32) (chunk i n bs)) ≡ 0 → mask_l (map (λ b. nat_lt 126 b) (chunk i n bs)) ≡ 0 → ArePrintable bs i (i + n)
-printable_run bs i n room low high k from to = both_sides (get_or bs k 0) (none_from_empty_mask (λ b. nat_lt b 32) bs i n 0 room low k from to) (none_from_empty_mask (λ b. nat_lt 126 b) bs i n 0 room high k from to)
+above_and_below : (b : ℕ) (low high : Bool) → ((not (nat_lt b 32) && low) && (not (nat_lt 126 b) && high)) ≡ (is_printable b && (low && high))
+above_and_below b low high = grind (arith, nat_tests)
 
-high_mask : (xs : List ℕ) (n : ℕ) → length xs ≡ n → n ≤ 64 → mask_l (map (top (hbits w8)) (zip2 (λ a b. cond (nat_lt a b) (2 ^ bits w8 - 1) 0) (replicate n 126) xs)) % 2 ^ 64 ≡ mask_l (map (λ b. nat_lt 126 b) xs)
-high_mask xs n long le =
-    ap (λ ms. mask_l ms % 2 ^ 64) (tops_compared w8 nat_lt (replicate n 126) xs ∙ zip2_splat_left nat_lt 126 n xs long)
-    ∙ mask_l-mod (map (λ b. nat_lt 126 b) xs) 64 (omega (arith, length-map xs (λ b. nat_lt 126 b)))
+two_tests : (bs : List ℕ) → (list_all (λ b. not (nat_lt b 32)) bs && list_all (λ b. not (nat_lt 126 b)) bs) ≡ list_all is_printable bs
+two_tests [] = refl
+two_tests (b ∷ bs) = above_and_below b _ _ ∙ ap (λ v. is_printable b && v) (two_tests bs)
 
-pub run_from_masks : (bs : List ℕ) (i n : ℕ) → n ≤ 64 → i + n ≤ length bs
+-- the two masks of a block, as they are compared
+pub block_test : (bs : List ℕ) (i n : ℕ) → n ≤ 64 → i + n ≤ length bs
     → (eqb (mask_l (map (top (hbits w8)) (zip2 (λ a b. cond (nat_lt a b) (2 ^ bits w8 - 1) 0) (chunk i n bs) (replicate n 32))) % 2 ^ 64) 0
-    && eqb (mask_l (map (top (hbits w8)) (zip2 (λ a b. cond (nat_lt a b) (2 ^ bits w8 - 1) 0) (replicate n 126) (chunk i n bs))) % 2 ^ 64) 0) ≡ true
-    → ArePrintable bs i (i + n)
-run_from_masks bs i n le room h =
-    let long = length-chunk i n bs room in
-    let parts = and_parts _ _ h in
-    printable_run bs i n room (sym (bitmask_splat w8 nat_lt (chunk i n bs) n 32 long le) ∙ eqb-true _ _ parts.0) (sym (high_mask (chunk i n bs) n long le) ∙ eqb-true _ _ parts.1)
-
-all_by_index : (bs : List ℕ) → ((k : ℕ) → k < length bs → is_printable (slice_index bs k) ≡ true) → list_all is_printable bs ≡ true
-all_by_index [] h = refl
-all_by_index (b ∷ bs) h = and_from (is_printable b) (list_all is_printable bs) (h 0 (omega arith)) (all_by_index bs (λ k l. h (suc k) (omega arith)))
-
-pub printable_halves : (bs : List ℕ) (m : ℕ) → m ≤ length bs → length bs ≤ m + m → ArePrintable bs 0 (0 + m) → ArePrintable bs (length bs - m) (length bs - m + m) → list_all is_printable bs ≡ true
-printable_halves bs m le all front back = all_by_index bs (λ k l. elim (cases_lt k m) [ inl h ↦ front k (omega arith) (omega arith) | inr h ↦ back k (omega arith) (omega arith) ])
-
-pub printable_runs : (bs : List ℕ) (i : ℕ) → ArePrintable bs 0 (16 * i) → ArePrintable bs (16 * i) (16 * i + 16) → ArePrintable bs 0 (16 * (i + 1))
-printable_runs bs i before here k from to = elim (cases_lt k (16 * i)) [ inl h ↦ before k from h | inr h ↦ here k h (omega arith) ]
-
-pub printable_to_the_end : (bs : List ℕ) (i : ℕ) → 16 ≤ length bs → length bs ≤ 16 * i + 16 → ArePrintable bs 0 (16 * i) → ArePrintable bs (length bs - 16) (length bs - 16 + 16) → list_all is_printable bs ≡ true
-printable_to_the_end bs i some room before last = all_by_index bs (λ k l. elim (cases_lt k (16 * i)) [ inl h ↦ before k (omega arith) h | inr h ↦ last k (omega arith) (omega arith) ])
+    && eqb (mask_l (map (top (hbits w8)) (zip2 (λ a b. cond (nat_lt a b) (2 ^ bits w8 - 1) 0) (replicate n 126) (chunk i n bs))) % 2 ^ 64) 0)
+    ≡ list_all is_printable (chunk i n bs)
+block_test bs i n le room =
+    let xs : List ℕ = chunk i n bs in
+    let long : length xs ≡ n = length-chunk i n bs room in
+    let below = ap (λ m. eqb m 0) (bitmask_splat w8 nat_lt xs n 32 long le) ∙ no_bits (λ b. nat_lt b 32) xs in
+    let above = ap (λ ms. eqb (mask_l ms % 2 ^ 64) 0) (tops_compared w8 nat_lt (replicate n 126) xs ∙ zip2_splat_left nat_lt 126 n xs long)
+    ∙ ap (λ m. eqb m 0) (mask_l-mod (map (λ b. nat_lt 126 b) xs) 64 (omega (arith, length-map xs (λ b. nat_lt 126 b)))) ∙ no_bits (λ b. nat_lt 126 b) xs in
+    same_both below above ∙ two_tests xs
 
 -- ---- a text of printable bytes: its characters are they
 
@@ -152,6 +153,170 @@ printable-adds b h = grind (arith, nat_tests)
 
 pub printable_texts_add_up : (bs : List ℕ) → list_all is_printable bs ≡ true → list_all adds_up (chars bs) ≡ true
 printable_texts_add_up = printable-chars adds_up printable-adds
+
+-- ---- letters, which take one column or two
+
+narrow_ranges : List Range
+narrow_ranges = (0xAE, 0x2FF) ∷ (0x370, 0x482) ∷ (0x48A, 0x590) ∷ (0x1E00, 0x1EFF) ∷ (0x2010, 0x2027) ∷ (0x20A0, 0x20BF) ∷ []
+
+wide_ranges : List Range
+wide_ranges = (0x3000, 0x3029) ∷ (0x3041, 0x3096) ∷ (0x309B, 0x30FF) ∷ (0x4E00, 0x9FFF) ∷ (0xAC00, 0xD7A3) ∷ (0xFF01, 0xFF60) ∷ []
+
+abbrev is_narrow_kind : Kind → Bool
+is_narrow_kind kinds.Narrow = true
+is_narrow_kind kinds.Ambiguous = true
+is_narrow_kind _ = false
+
+abbrev is_wide_kind : Kind → Bool
+is_wide_kind kinds.Wide = true
+is_wide_kind _ = false
+
+narrow_or_outside : Bool → Kind → Bool
+narrow_or_outside inside k = not inside || is_narrow_kind k
+
+wide_or_outside : Bool → Kind → Bool
+wide_or_outside inside k = not inside || is_wide_kind k
+
+narrow_stepped : Stepped (in_ranges narrow_ranges)
+unfolding tables narrow_ranges
+narrow_stepped = of_ranges narrow_ranges refl
+
+wide_stepped : Stepped (in_ranges wide_ranges)
+unfolding tables wide_ranges
+wide_stepped = of_ranges wide_ranges refl
+
+all_narrow : (c : ℕ) → c ≤ 0x10_FFFF → narrow_or_outside (in_ranges narrow_ranges c) (kind c) ≡ true
+unfolding unicode_width tables narrow_stepped narrow_ranges narrow_or_outside
+all_narrow = Stepped-always (λ c. narrow_or_outside (in_ranges narrow_ranges c) (kind c)) (zip_stepped narrow_or_outside (in_ranges narrow_ranges) kind narrow_stepped kind_stepped) refl
+
+all_wide : (c : ℕ) → c ≤ 0x10_FFFF → wide_or_outside (in_ranges wide_ranges c) (kind c) ≡ true
+unfolding unicode_width tables wide_stepped wide_ranges wide_or_outside
+all_wide = Stepped-always (λ c. wide_or_outside (in_ranges wide_ranges c) (kind c)) (zip_stepped wide_or_outside (in_ranges wide_ranges) kind wide_stepped kind_stepped) refl
+
+-- what a character of such a kind takes
+narrow-columns : (c : ℕ) (k : Kind) → is_narrow_kind k ≡ true → ((of_kind false c k).0 ≡ 1) × (is_simple_kind k ≡ true)
+narrow-columns c kinds.Zero h = cc
+narrow-columns c kinds.Narrow h = (refl, refl)
+narrow-columns c kinds.Wide h = cc
+narrow-columns c kinds.Ambiguous h = (refl, refl)
+narrow-columns c kinds.Alef h = cc
+narrow-columns c kinds.KhmerLetter h = cc
+narrow-columns c kinds.TifinaghConsonant h = cc
+narrow-columns c kinds.LisuTone h = cc
+narrow-columns c kinds.RegionalIndicator h = cc
+narrow-columns c kinds.EmojiModifier h = cc
+narrow-columns c kinds.Emoji h = cc
+narrow-columns c kinds.Single h = cc
+
+wide-columns : (c : ℕ) (k : Kind) → is_wide_kind k ≡ true → ((of_kind false c k).0 ≡ 2) × (is_simple_kind k ≡ true)
+wide-columns c kinds.Zero h = cc
+wide-columns c kinds.Narrow h = cc
+wide-columns c kinds.Wide h = (refl, refl)
+wide-columns c kinds.Ambiguous h = cc
+wide-columns c kinds.Alef h = cc
+wide-columns c kinds.KhmerLetter h = cc
+wide-columns c kinds.TifinaghConsonant h = cc
+wide-columns c kinds.LisuTone h = cc
+wide-columns c kinds.RegionalIndicator h = cc
+wide-columns c kinds.EmojiModifier h = cc
+wide-columns c kinds.Emoji h = cc
+wide-columns c kinds.Single h = cc
+
+-- above U+00A0 its columns are those of its kind
+high-columns : (c n : ℕ) → 0xA0 < c → (of_kind false c (kind c)).0 ≡ n → width_or_zero false c ≡ n
+unfolding char_width own_width
+high-columns c n high is = grind (arith, nat_tests)
+
+ascii-columns : (c : ℕ) → is_in_range 0x20 0x7E c ≡ true → width_or_zero false c ≡ 1
+unfolding char_width
+ascii-columns c h = grind (arith, nat_tests)
+
+-- printable ASCII, or in one of the ranges
+where-letter : (c : ℕ) → is_letter c ≡ true → ((is_in_range 0x20 0x7E c ≡ true) × (letter_columns c ≡ 1))
+    ⊎ (((in_ranges narrow_ranges c ≡ true) × (0xA0 < c) × (c ≤ 0x10_FFFF) × (letter_columns c ≡ 1)) ⊎ ((in_ranges wide_ranges c ≡ true) × (0xA0 < c) × (c ≤ 0x10_FFFF) × (letter_columns c ≡ 2)))
+unfolding in_ranges narrow_ranges wide_ranges
+where-letter c h = grind (arith, nat_tests)
+
+narrow-inside : (c : ℕ) → in_ranges narrow_ranges c ≡ true → 0xA0 < c → c ≤ 0x10_FFFF → (is_simple c ≡ true) × (width_or_zero false c ≡ 1)
+unfolding narrow_or_outside
+narrow-inside c inside high low =
+    let all = all_narrow c low in
+    let own : is_narrow_kind (kind c) ≡ true = sym (ap (λ v. not v || is_narrow_kind (kind c)) inside) ∙ all in
+    let takes = narrow-columns c (kind c) own in
+    let simple : (nat_lt 0xA0 c && is_simple_kind (kind c)) ≡ true = let k = takes.1 in grind (arith, nat_tests) in
+    (grind (arith, nat_tests), high-columns c 1 high takes.0)
+
+wide-inside : (c : ℕ) → in_ranges wide_ranges c ≡ true → 0xA0 < c → c ≤ 0x10_FFFF → (is_simple c ≡ true) × (width_or_zero false c ≡ 2)
+unfolding wide_or_outside
+wide-inside c inside high low =
+    let all = all_wide c low in
+    let own : is_wide_kind (kind c) ≡ true = sym (ap (λ v. not v || is_wide_kind (kind c)) inside) ∙ all in
+    let takes = wide-columns c (kind c) own in
+    let simple : (nat_lt 0xA0 c && is_simple_kind (kind c)) ≡ true = let k = takes.1 in grind (arith, nat_tests) in
+    (grind (arith, nat_tests), high-columns c 2 high takes.0)
+
+letter-columns : (c : ℕ) → is_letter c ≡ true → (is_simple c ≡ true) × (width_or_zero false c ≡ letter_columns c)
+letter-columns c h = elim (where-letter c h) [
+  | inl ascii ↦ (ap (λ v. v || (nat_lt 0xA0 c && is_simple_kind (kind c))) ascii.0, ascii-columns c ascii.0 ∙ sym ascii.1)
+  | inr others ↦ elim others [
+    | inl narrow ↦ let own = narrow-inside c narrow.0 narrow.1 narrow.2 in (own.0, own.1 ∙ sym narrow.3)
+    | inr wide ↦ let own = wide-inside c wide.0 wide.1 wide.2 in (own.0, own.1 ∙ sym wide.3)
+  ]
+]
+
+letters-simple : (cs : List ℕ) → list_all is_letter cs ≡ true → (list_all is_simple cs ≡ true) × (sum_by (width_or_zero false) cs ≡ sum_by letter_columns cs)
+letters-simple [] h = (refl, refl)
+letters-simple (c ∷ cs) h =
+    let parts = and_parts (is_letter c) (list_all is_letter cs) h in
+    let here = letter-columns c parts.0 in
+    let rest = letters-simple cs parts.1 in
+    (and_from (is_simple c) (list_all is_simple cs) here.0 rest.0, omega (arith, sum_by-cons (width_or_zero false) c cs, sum_by-cons letter_columns c cs, here.1, rest.1))
+
+pub letters-width : (text : Text) → list_all is_letter (chars text) ≡ true → width_of text ≡ sum_by letter_columns (chars text)
+unfolding width_of
+letters-width text h = let own = letters-simple (chars text) h in str_width-simple false (chars text) own.0 ∙ own.1
+
+printable-letter : (b : ℕ) → is_printable b ≡ true → is_letter b ≡ true
+printable-letter b h = grind (arith, nat_tests)
+
+pub printable_texts_are_letters : (bs : List ℕ) → list_all is_printable bs ≡ true → list_all is_letter (chars bs) ≡ true
+printable_texts_are_letters = printable-chars is_letter printable-letter
+
+few-columns : (c : ℕ) → letter_columns c ≤ 2
+few-columns c = grind (arith, nat_tests)
+
+pub letters-fit : (cs : List ℕ) → sum_by letter_columns cs ≤ 2 * length cs
+letters-fit [] = omega arith
+letters-fit (c ∷ cs) = omega (arith, sum_by-cons letter_columns c cs, few-columns c, letters-fit cs)
+
+-- none of them is a control character
+seen-below : (c : ℕ) → 0x20 ≤ c → c ≤ 0x590 → (c ≤ 0x7E) ⊎ (0xAE ≤ c) → not (is_control c) ≡ true
+seen-below c low high out = elim out [ inl ascii ↦ grind (arith, nat_tests) | inr above ↦ grind (arith, nat_tests) ]
+
+seen-between : (c : ℕ) → 0x1E00 ≤ c → c ≤ 0x2027 → (c ≤ 0x1EFF) ⊎ (0x2010 ≤ c) → not (is_control c) ≡ true
+seen-between c low high out = elim out [ inl below ↦ grind (arith, nat_tests) | inr above ↦ grind (arith, nat_tests) ]
+
+seen-above : (c : ℕ) → 0x20A0 ≤ c → c ≤ 0xFF60 → (c ≤ 0xD7A3) ⊎ (0xFF01 ≤ c) → not (is_control c) ≡ true
+seen-above c low high out = elim out [ inl below ↦ grind (arith, nat_tests) | inr above ↦ grind (arith, nat_tests) ]
+
+where-seen : (c : ℕ) → is_letter c ≡ true
+    → ((0x20 ≤ c) × (c ≤ 0x590) × ((c ≤ 0x7E) ⊎ (0xAE ≤ c))) ⊎ (((0x1E00 ≤ c) × (c ≤ 0x2027) × ((c ≤ 0x1EFF) ⊎ (0x2010 ≤ c))) ⊎ ((0x20A0 ≤ c) × (c ≤ 0xFF60) × ((c ≤ 0xD7A3) ⊎ (0xFF01 ≤ c))))
+where-seen c h = grind (arith, nat_tests)
+
+letter-seen : (c : ℕ) → is_letter c ≡ true → not (is_control c) ≡ true
+letter-seen c h = elim (where-seen c h) [
+  | inl low ↦ seen-below c low.0 low.1 low.2
+  | inr others ↦ elim others [ inl mid ↦ seen-between c mid.0 mid.1 mid.2 | inr high ↦ seen-above c high.0 high.1 high.2 ]
+]
+
+letters-seen : (cs : List ℕ) → list_all is_letter cs ≡ true → list_all (λ c. not (is_control c)) cs ≡ true
+letters-seen [] h = refl
+letters-seen (c ∷ cs) h =
+    let parts = and_parts (is_letter c) (list_all is_letter cs) h in
+    and_from (not (is_control c)) (list_all (λ d. not (is_control d)) cs) (letter-seen c parts.0) (letters-seen cs parts.1)
+
+pub letters_are_seen : (text : Text) → list_all is_letter (chars text) ≡ true → list_all (λ c. not (is_control c)) (chars text) ≡ true
+letters_are_seen text h = letters-seen (chars text) h
 
 -- ---- a text with such characters behind it
 
@@ -419,11 +584,11 @@ graphemes-printable text h =
 printable-plain : (b : ℕ) → is_printable b ≡ true → is_plain_byte b ≡ true
 printable-plain b h = grind (arith, nat_tests)
 
-printables-plain : (bs : List ℕ) → list_all is_printable bs ≡ true → list_all is_plain_byte bs ≡ true
-printables-plain [] h = refl
-printables-plain (b ∷ bs) h =
+pub printable_texts_are_plain : (bs : List ℕ) → list_all is_printable bs ≡ true → list_all is_plain_byte bs ≡ true
+printable_texts_are_plain [] h = refl
+printable_texts_are_plain (b ∷ bs) h =
     let parts = and_parts (is_printable b) (list_all is_printable bs) h in
-    and_from (is_plain_byte b) (list_all is_plain_byte bs) (printable-plain b parts.0) (printables-plain bs parts.1)
+    and_from (is_plain_byte b) (list_all is_plain_byte bs) (printable-plain b parts.0) (printable_texts_are_plain bs parts.1)
 
 -- a part of a text of such bytes, which are as many as its columns
 printable-part : (text : Text) (i j : ℕ) → i ≤ j → j ≤ length text → list_all is_printable text ≡ true → list_all is_printable (slice_range text i j) ≡ true
@@ -437,7 +602,7 @@ printable-part text i j order end h =
 
 pub part-width : (text : Text) (i j : ℕ) → i ≤ j → j ≤ length text → list_all is_printable text ≡ true → j - i ≡ width_of (slice_range text i j)
 part-width text i j order end h =
-    sym (width_of-plain (slice_range text i j) (printables-plain (slice_range text i j) (printable-part text i j order end h)) ∙ length-slice_range text i j end)
+    sym (width_of-plain (slice_range text i j) (printable_texts_are_plain (slice_range text i j) (printable-part text i j order end h)) ∙ length-slice_range text i j end)
 
 one-column : (b : ℕ) → is_printable b ≡ true → width_of (b ∷ []) ≡ 1
 one-column b h = width_of-plain (b ∷ []) (and_from (is_plain_byte b) true (printable-plain b h) refl)
@@ -542,4 +707,4 @@ least-word line h some = sym (least-words line h ∙ ap (λ (v : Bool). cond {A 
 pub least-one_line : (breaking : Breaking) (text : Text) → list_all is_printable text ≡ true → least_width breaking text ≡ least_line_width breaking text
 unfolding least_width
 least-one_line breaking text h =
-    ap (λ ls. greatest (map (least_line_width breaking) ls)) (lines_of-one text (feed_place-plain text (printables-plain text h))) ∙ omega arith
+    ap (λ ls. greatest (map (least_line_width breaking) ls)) (lines_of-one text (feed_place-plain text (printable_texts_are_plain text h))) ∙ omega arith

@@ -1,6 +1,6 @@
 -- The lines of wrapped texts: they fit, and nothing but spaces between words is left out.
-use Rattle.std.proofs.Common.{◌≡◌, ⊎_elim, ℕ, ◌≤◌, ◌==◌, true, false, cond, List, [], ◌∷◌, ◌++◌, length, map, append_assoc, append-nil, subst, refl, sym, ap, ◌∙◌, arith, suc, ◌<◌, get_or, lit<, length-append, not, Bool}
-use Rattle.std.specs.List.{concat, flat_map, join_with_byte, All, slice_split, onto_first, filter}
+use Rattle.std.proofs.Common.{◌≡◌, ⊎_elim, ℕ, ◌≤◌, ◌==◌, true, false, cond, zero, ◌&&◌, ◌+◌, List, [], ◌∷◌, ◌++◌, length, map, append_assoc, append-nil, subst, refl, sym, ap, ◌∙◌, arith, suc, ◌<◌, get_or, lit<, length-append, not, Bool}
+use Rattle.std.specs.List.{concat, flat_map, join_with_byte, list_all, sum_by, All, slice_split, onto_first, filter}
 use Rattle.std.proofs.lemmas.Bool.{or_cases, and_parts}
 use Rattle.std.proofs.lemmas.Bool.Decides.{nat_tests}
 use Rattle.std.proofs.lemmas.List.Concat.{flat_map-cons}
@@ -12,14 +12,15 @@ use Rattle.pg_fit.specs.declared.wrapping.Breaking.{Breaking}
 use Rattle.pg_fit.specs.declared.wrapping.Breaking.TheVariants.{Anywhere, BetweenWords}
 use Rattle.pg_fit.specs.Wrapping.{Piece, fits, takes, filled, characters, words, indented, parted, pieces, wrapped_line, wrapped, widest_character, least_line_width, before_words, least_width}
 use Rattle.pg_fit.specs.Laws.{EachFits, LinesFit, NothingIsLost, FittingTextsStay, LinesStand, WrappedTextsFit, OnlySpacesAreLost}
-use Rattle.pg_fit.proofs.LawsOfControls.{nothing_wide}
+use Rattle.pg_fit.specs.Controls.{is_letter, letter_columns}
+use Rattle.pg_fit.proofs.LawsOfControls.{nothing_wide, letters-width}
 use Rattle.pg_fit.proofs.FilledLines.{wrapped_line-fits, wrapped_line-some}
-use Rattle.std.specs.Str.{IsUtf8, encode_utf8_all}
+use Rattle.std.specs.Str.{IsUtf8, chars, encode_utf8_all}
 use Rattle.std.proofs.lemmas.List.Elements.{All-nil, All-cons}
-use Rattle.std.proofs.lemmas.Str.{IsUtf8-nil, IsUtf8-append, IsUtf8-encode, inside_one, encode_ascii, len_utf8_bounds, length-encode}
+use Rattle.std.proofs.lemmas.Str.{IsUtf8-nil, IsUtf8-append, IsUtf8-encode, encodes-chars, inside_one, encode_ascii, len_utf8_bounds, length-encode}
 use Rattle.std.proofs.Math.Utf8.{encode, scalars, scalar}
 use Rattle.std.proofs.lemmas.Grind.{flat_map-append}
-use Rattle.pg_layout.proofs.TextLines.{lines_of-one, feed_place-plain}
+use Rattle.pg_layout.proofs.TextLines.{lines_of-one, feed_place, feed_place-plain}
 
 -- ---- lines that fit, from which nothing is lost
 
@@ -563,6 +564,39 @@ only_spaces_are_lost width line utf8 =
     ]
 
 -- plain texts are lines
+-- ---- texts of letters
+
+-- a test that fails at a place fails
+pub fails-at : (p : ℕ → Bool) (xs : List ℕ) (n x : ℕ) → n < length xs → x ≡ get_or xs n x → p x ≡ false → list_all p xs ≡ false
+fails-at p [] n x within is h = absurd (omega (arith, within))
+fails-at p (y ∷ ys) zero x within is h = ap (λ v. v && list_all p ys) (ap p (sym is) ∙ h)
+fails-at p (y ∷ ys) (suc n) x within is h =
+    let rest = fails-at p ys n x (omega (arith, within)) is h in
+    elim (p y) as (λ v. (v && list_all p ys) ≡ false) [ true ↦ rest | false ↦ refl ]
+
+letter-no_feed : (c : ℕ) → is_letter c ≡ true → (c == 10) ≡ false
+letter-no_feed c h = grind (arith, nat_tests)
+
+letters-no_feeds : (cs : List ℕ) → list_all is_letter cs ≡ true → NoFeeds (encode_utf8_all cs)
+letters-no_feeds [] h = tt
+letters-no_feeds (c ∷ cs) h =
+    let parts = and_parts (is_letter c) (list_all is_letter cs) h in
+    NoFeeds-append (encode c) (encode_utf8_all cs) (lacks-feeds (encode c) (encode-lacks 10 c (lit< tt) (letter-no_feed c parts.0))) (letters-no_feeds cs parts.1)
+
+no_feeds-place : (bs : Text) → NoFeeds bs → feed_place bs ≡ length bs
+no_feeds-place [] p = refl
+no_feeds-place (b ∷ bs) p = ap (λ v. cond (not v) (1 + feed_place bs) 0) p.0 ∙ omega (arith, no_feeds-place bs p.1)
+
+-- such a text is one line
+pub letters_are_a_line : (text : Text) → IsUtf8 text → list_all is_letter (chars text) ≡ true → lines_of text ≡ text ∷ []
+letters_are_a_line text utf8 h =
+    lines_of-one text (no_feeds-place text (subst NoFeeds (encodes-chars text utf8) (letters-no_feeds (chars text) h)))
+
+pub letters-text_width : (text : Text) → IsUtf8 text → list_all is_letter (chars text) ≡ true → text_width_of text ≡ sum_by letter_columns (chars text)
+unfolding text_width_of
+letters-text_width text utf8 h =
+    ap (λ ls. greatest (map width_of ls)) (letters_are_a_line text utf8 h) ∙ omega (arith, letters-width text h)
+
 pub ruleset single_lines = (lines_of-one, feed_place-plain)
 
 -- what the lines of a wrapped text are like

@@ -1,8 +1,9 @@
 -- Control characters as characters that are seen, and the printable ones of ASCII.
-use Rattle.std.specs.Prelude.{ℕ, ◌+◌, ◌==◌, ◌&&◌, ◌||◌, nat_lt, not, Bool, map, chars, if◌then◌else◌, ◌≡◌, ◌≤◌, ◌<◌, true, slice_index}
+use Rattle.std.specs.Prelude.{ℕ, ◌+◌, ◌==◌, ◌&&◌, ◌||◌, nat_lt, not, Bool, map, chars, if◌then◌else◌, Option, Some, None}
 use Rattle.std.specs.Int.{is_in_range}
+use Rattle.std.specs.List.{list_all}
 use Rattle.std.specs.Str.{encode_utf8_all}
-use Rattle.pg_layout.specs.Text.{Text}
+use Rattle.pg_layout.specs.Text.{Text, text_width_of}
 
 -- a character that isn't shown, and that hides or turns what is beside it: soft hyphen, Arabic letter mark, Mongolian vowel separator, zero width space,
 -- marks of direction, separators of lines and paragraphs with embeddings and overrides of direction, invisible operators with isolates, byte order mark,
@@ -35,6 +36,27 @@ visible_text text = encode_utf8_all (map sign_of (chars text))
 abbrev pub is_printable : ℕ → Bool
 is_printable b = is_in_range 0x20 0x7E b
 
--- the bytes of a text from a place up to another are such
-abbrev pub ArePrintable : Text → ℕ → ℕ → Type 0
-ArePrintable text from to = (k : ℕ) → from ≤ k → k < to → is_printable (slice_index text k) ≡ true
+-- ---- letters, digits and signs that take the same columns beside any others
+
+-- one column: of printable ASCII, Latin, Greek, Cyrillic and Armenian, dashes and quotation marks, and signs of currencies
+abbrev pub is_narrow_letter : ℕ → Bool
+is_narrow_letter c =
+    is_in_range 0x20 0x7E c || is_in_range 0xAE 0x2FF c || is_in_range 0x370 0x482 c || is_in_range 0x48A 0x590 c || is_in_range 0x1E00 0x1EFF c
+    || is_in_range 0x2010 0x2027 c || is_in_range 0x20A0 0x20BF c
+
+-- two columns: of Chinese, Japanese and Korean
+abbrev pub is_wide_letter : ℕ → Bool
+is_wide_letter c =
+    is_in_range 0x3000 0x3029 c || is_in_range 0x3041 0x3096 c || is_in_range 0x309B 0x30FF c || is_in_range 0x4E00 0x9FFF c || is_in_range 0xAC00 0xD7A3 c
+    || is_in_range 0xFF01 0xFF60 c
+
+-- how many columns a letter takes; 0 for another character
+abbrev pub letter_columns : ℕ → ℕ
+letter_columns c = if is_narrow_letter c then 1 else if is_wide_letter c then 2 else 0
+
+abbrev pub is_letter : ℕ → Bool
+is_letter c = nat_lt 0 (letter_columns c)
+
+-- the width of a text of letters alone
+abbrev pub letters_width : Text → Option ℕ
+letters_width text = if list_all is_letter (chars text) then Some (text_width_of text) else None

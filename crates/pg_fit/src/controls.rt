@@ -1,8 +1,9 @@
 //! Control characters, which a terminal obeys, as visible characters.
 
-ghost use Rattle.std.specs.Prelude.{◌≡◌, ◌+◌, ◌≤◌, true, length, IsTrue, IfOk, string_bytes, not, chars};
+ghost use Rattle.std.specs.Prelude.{◌≡◌, ◌+◌, ◌≤◌, false, true, length, IfOk, string_bytes, not, chars};
+ghost use Rattle.std.specs.Simd.Lanes.{chunk};
 ghost use Rattle.std.specs.List.{list_all};
-ghost use Rattle.pg_fit.specs.Controls.{is_hidden, is_control, sign_of, visible_text, is_printable, ArePrintable};
+ghost use Rattle.pg_fit.specs.Controls.{is_hidden, is_control, sign_of, visible_text, is_printable};
 
 use std::alloc::{AllocError, Allocator};
 use std::simd::prelude::*;
@@ -26,11 +27,25 @@ fn is_hidden(c: char) -> bool
     )
 }
 
+// Whether a character is in one of the ranges that have most letters, and nothing that a terminal
+// obeys or hides. Fewer comparisons tell that.
+fn is_common(c: char) -> bool
+    ensures { result ≡ true → is_control c ≡ false }
+{
+    matches!(
+        c,
+        ' '..='~' | '\u{ae}'..='\u{61b}' | '\u{61d}'..='\u{180d}' | '\u{2070}'..='\u{fefe}'
+    )
+}
+
 // Whether a terminal obeys or hides a character: those below a space except the line feed, DEL,
 // those from U+0080 to U+009F, and hidden ones.
 fn is_control(c: char) -> bool
     ensures { result ≡ is_control c }
 {
+    if is_common(c) {
+        return false;
+    }
     c != '\n' && (c < ' ' || ('\u{7f}'..='\u{9f}').contains(&c) || is_hidden(c))
 }
 
@@ -57,12 +72,13 @@ pub fn is_visible(text: &str) -> bool
     is_printable(text.as_bytes()) || text.chars().all(|c| !is_control(c))
 }
 
-// Whether each byte is a printable ASCII character, as in nearly all texts of tables: then no other
-// test is needed, and comparing bytes in blocks costs less than comparing characters. Two blocks,
-// which may overlap, hold a text of at most twice their length.
+/// Whether each byte is a printable ASCII character, as in nearly all texts of tables: such a text
+/// is visible and plain ([`is_visible`], [`pg_layout::is_plain`]).
+// Comparing bytes in blocks costs less than comparing characters. Two blocks, which may overlap,
+// hold a text of at most twice their length.
 #[inline(always)]
-pub(crate) fn is_printable(bytes: &[u8]) -> bool
-    ensures { IsTrue result → list_all is_printable bytes.now ≡ true }
+pub fn is_printable(bytes: &[u8]) -> bool
+    ensures { result ≡ list_all is_printable bytes.now }
 {
     match bytes.len() {
         0..4 => bytes.iter().all(|b| *b >= b' ' && *b <= b'~'),
@@ -74,12 +90,12 @@ pub(crate) fn is_printable(bytes: &[u8]) -> bool
 
 // Both blocks are tested: a branch between them costs more than the second test.
 #[inline(always)]
-#[tactic(auto, using(crate::proofs::LawsOfControls::printable_halves))]
+#[tactic(auto, using(pg_layout::proofs::PlainBytes::all_by_ends, pg_layout::proofs::PlainBytes::same_both))]
 fn has_printable_ends<const N: usize>(bytes: &[u8]) -> bool
     requires lanes { N ≤ 64 }
     requires one_block { N ≤ length bytes.now }
     requires two_blocks { length bytes.now ≤ N + N }
-    ensures { IsTrue result → list_all is_printable bytes.now ≡ true }
+    ensures { result ≡ list_all is_printable bytes.now }
 {
     is_block_printable::<N>(bytes, 0) & is_block_printable::<N>(bytes, bytes.len() - N)
 }
@@ -88,7 +104,7 @@ fn has_printable_ends<const N: usize>(bytes: &[u8]) -> bool
 #[inline(never)]
 fn has_printable_blocks(bytes: &[u8]) -> bool
     requires { 16 ≤ length bytes.now }
-    ensures { IsTrue result → list_all is_printable bytes.now ≡ true }
+    ensures { result ≡ list_all is_printable bytes.now }
 {
     for block in 0..bytes.len() / 16 {
         if !is_block_printable::<16>(bytes, 16 * block) {
@@ -102,7 +118,7 @@ fn has_printable_blocks(bytes: &[u8]) -> bool
 fn is_block_printable<const N: usize>(bytes: &[u8], from: usize) -> bool
     requires lanes { N ≤ 64 }
     requires room { from + N ≤ length bytes.now }
-    ensures { IsTrue result → ArePrintable bytes.now from (from + N) }
+    ensures { result ≡ list_all is_printable (chunk from N bytes.now) }
 {
     let block = Simd::<u8, N>::from_slice(&bytes[from..]);
     let below = block.simd_lt(Simd::splat(b' ')).to_bitmask();

@@ -16,7 +16,7 @@ mod row;
 mod wrapped_row;
 mod wrapping;
 
-pub use crate::controls::{is_visible, sign_of, visible};
+pub use crate::controls::{is_printable, is_visible, sign_of, visible};
 pub use crate::cutting::cut;
 pub use crate::cutting_away::{cut_front, cut_middle};
 pub use crate::escapes::without_escapes;
@@ -25,6 +25,7 @@ pub use crate::laws::{
     narrowed_widths_fill_the_room, visible_texts_are_seen, wrapped_lines_fit, wrapped_texts_fit,
 };
 pub use crate::least::least_width;
+pub use crate::line::letters_width;
 pub use crate::narrowing::{ColumnRange, narrow};
 pub use crate::overlaid::{OverlaidColumns, OverlaidRecords, OverlaidRows};
 pub use crate::row::{Fitted, fit_row};

@@ -5,7 +5,7 @@ ghost use Rattle.std.specs.List.{list_all};
 ghost use Rattle.std.specs.Str.{IsCharBoundary};
 ghost use Rattle.pg_layout.specs.Text.{width_of};
 ghost use Rattle.pg_fit.specs.Inside.{adds_up};
-ghost use Rattle.pg_fit.specs.Controls.{is_printable};
+ghost use Rattle.pg_fit.specs.Controls.{is_printable, letter_columns, letters_width};
 
 use crate::controls::is_printable;
 use pg_layout::get_line_width;
@@ -124,4 +124,48 @@ fn is_additive(c: char) -> bool
             | '\u{f900}'..='\u{faff}'
             | '\u{ff00}'..='\u{ffef}'
     )
+}
+
+// How many columns a letter takes beside any others, or 0 for another character.
+#[inline(always)]
+fn letter_columns(c: char) -> usize
+    ensures { result ≡ letter_columns c }
+{
+    match c {
+        ' '..='~'
+        | '\u{ae}'..='\u{2ff}'
+        | '\u{370}'..='\u{482}'
+        | '\u{48a}'..='\u{590}'
+        | '\u{1e00}'..='\u{1eff}'
+        | '\u{2010}'..='\u{2027}'
+        | '\u{20a0}'..='\u{20bf}' => 1,
+        '\u{3000}'..='\u{3029}'
+        | '\u{3041}'..='\u{3096}'
+        | '\u{309b}'..='\u{30ff}'
+        | '\u{4e00}'..='\u{9fff}'
+        | '\u{ac00}'..='\u{d7a3}'
+        | '\u{ff01}'..='\u{ff60}' => 2,
+        _ => 0,
+    }
+}
+
+/// How many terminal columns a text takes, if it has nothing but letters, digits and signs that take
+/// one or two columns each, whatever stands beside them: printable ASCII, Latin, Greek, Cyrillic and
+/// Armenian, dashes and quotation marks, signs of currencies, and the characters of Chinese, Japanese
+/// and Korean. Such a text is one line, and visible ([`crate::is_visible`]). One walk tells all that.
+pub fn letters_width(text: &str) -> Option<usize>
+    ensures { result ≡ letters_width text.now }
+{
+    if is_printable(text.as_bytes()) {
+        return Some(text.len());
+    }
+    let mut width = 0usize;
+    for c in text.chars() {
+        let columns = letter_columns(c);
+        if columns == 0 {
+            return None;
+        }
+        width = width.saturating_add(columns);
+    }
+    Some(width)
 }

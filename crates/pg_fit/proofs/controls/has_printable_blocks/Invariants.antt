@@ -1,6 +1,7 @@
-use Rattle.std.proofs.Common.{◌*◌}
-use Rattle.pg_fit.specs.Controls.{ArePrintable}
+use Rattle.std.proofs.Common.{◌≡◌, ◌*◌, true, take}
+use Rattle.std.specs.List.{list_all}
+use Rattle.pg_fit.specs.Controls.{is_printable}
 use Rattle.pg_fit.proofs.controls.has_printable_blocks.Given as goal
 
 abbrev pub invariant-loop-block : goal.invariant-loop-block
-invariant-loop-block l = ArePrintable l.bytes 0 (16 * l.block)
+invariant-loop-block l = list_all is_printable (take (16 * l.block) l.bytes) ≡ true

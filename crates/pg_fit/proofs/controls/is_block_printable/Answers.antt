@@ -1,5 +1,5 @@
-use Rattle.pg_fit.proofs.LawsOfControls.{run_from_masks}
+use Rattle.pg_fit.proofs.LawsOfControls.{block_test}
 use Rattle.pg_fit.proofs.controls.is_block_printable.Goals as goal
 
 pub returns : goal.returns
-returns g c = run_from_masks c.args.bytes.now c.args.from g.row.N c.requires.lanes c.requires.room
+returns g c = block_test c.args.bytes.now c.args.from g.row.N c.requires.lanes c.requires.room

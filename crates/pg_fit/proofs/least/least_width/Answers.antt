@@ -11,7 +11,7 @@ use Rattle.pg_fit.proofs.least.least_width.Goals as goal
 pub returns-then-is_printable : goal.returns-then-is_printable
 returns-then-is_printable c =
     let t = c.args.text.now in
-    let printable = ap (list_all is_printable) (sym c.as_bytes.ensures.value) ∙ c.is_printable.ensures c.if-is_printable.true in
+    let printable = ap (list_all is_printable) (sym c.as_bytes.ensures.value) ∙ sym c.is_printable.ensures ∙ c.if-is_printable.true in
     c.least_printable_width.ensures ∙ ap (least_line_width c.args.breaking) c.as_bytes-then-is_printable.ensures.value ∙ sym (least-one_line c.args.breaking t printable)
 
 pub returns : goal.returns

@@ -12,7 +12,7 @@ use Rattle.pg_fit.proofs.least.widest_character.Goals as goal
 pub returns-then-is_printable : goal.returns-then-is_printable
 returns-then-is_printable c =
     let t = c.args.text.now in
-    let printable = ap (list_all is_printable) (sym c.as_bytes.ensures.value) ∙ c.is_printable.ensures c.if-is_printable.true in
+    let printable = ap (list_all is_printable) (sym c.as_bytes.ensures.value) ∙ sym c.is_printable.ensures ∙ c.if-is_printable.true in
     omega (arith, c.min.ensures, widest-printable t printable)
 
 pub loop-character-init : goal.loop-character-init
