@@ -1,5 +1,5 @@
 -- What an iterator gives, and the rows and cells of vectors.
-use Rattle.std.proofs.Common.{◌≡◌, List, [], ◌∷◌, map, Option, Some, None, MatchOption, refl, ap, sym, ◌∙◌, subst, Vec, vec_len, arith, ℕ, ◌+◌, ◌<◌, ◌≤◌, nat_lt, Bool, true, false, not, ◌==◌, ◌||◌, cond, length, get_or, slice_get, All, ◌++◌}
+use Rattle.std.proofs.Common.{◌≡◌, List, [], ◌∷◌, map, set, zero, suc, Option, Some, None, MatchOption, refl, ap, sym, ◌∙◌, subst, Vec, vec_len, arith, ℕ, ◌+◌, ◌<◌, ◌≤◌, nat_lt, Bool, true, false, not, ◌==◌, ◌||◌, cond, length, get_or, slice_get, All, ◌++◌}
 use Rattle.std.specs.Iterator.{AlwaysYields, Count, at_most, YieldsFirstBy}
 use Rattle.std.proofs.lemmas.Iterator.{YieldsList}
 use Rattle.pg_layout.specs.Records.{AlwaysGives, Gives, Becomes, columns_of, ragged_row, text_at}
@@ -9,8 +9,8 @@ use Rattle.std.proofs.lemmas.Iterator.Adapters.{YieldsList-from_vec}
 use Rattle.std.proofs.lemmas.Simd.{map-map}
 use Rattle.pg_layout.specs.Text.{Text}
 use Rattle.std.specs.List.{position, position_or_len}
-use Rattle.std.proofs.lemmas.List.{length-map, length_push, map-append, get_or-map}
-use Rattle.std.proofs.lemmas.List.Folds.{position_or_len_push}
+use Rattle.std.proofs.lemmas.List.{length-map, length-set, length_push, map-append, get_or-map}
+use Rattle.std.proofs.lemmas.List.Folds.{position_or_len-set, position_or_len_push}
 use Rattle.std.proofs.lemmas.List.Elements.{All-map}
 use Rattle.std.proofs.lemmas.List.Sums.{position_or_len_is, prefix_len_passes}
 use Rattle.std.proofs.lemmas.Bool.{ltb-false, lt-ltb, le-ltb, eqb-true, eq-eqb, ne_eqb}
@@ -228,3 +228,17 @@ pub cell-at : {X : Type 0} (f : X → Text) (rows : List (List X)) (p : Position
 cell-at f rows p row cell e h k is =
     ap f is ∙ sym (get_or-map f row p.col cell [] k) ∙ ap (λ z. get_or (map f z) p.col []) e
     ∙ sym (ap (λ z. get_or z p.col []) (get_or-map (λ row. map f row) rows p.row [] [] h))
+
+-- ---- rows stay of one length where a row gives way to one of its length
+
+columns-set : {X : Type 0} (rows : List (List X)) (i : ℕ) (row : List X) → length row ≡ length (get_or rows i []) → columns_of (set rows i row) ≡ columns_of rows
+columns-set [] i row same = refl
+columns-set (first ∷ rows) zero row same = same
+columns-set (first ∷ rows) (suc i) row same = refl
+
+pub even-set : {X : Type 0} (rows : List (List X)) (i : ℕ) (row : List X) → length row ≡ length (get_or rows i []) → ragged_row rows ≡ None → ragged_row (set rows i row) ≡ None
+even-set rows i row same none =
+    ap (λ n. position (λ r. not (length r == n)) (set rows i row)) (columns-set rows i row same)
+    ∙ ap (λ n. cond (nat_lt n (length (set rows i row))) (Some n) None) (position_or_len-set (λ r. not (length r == columns_of rows)) rows i row [] (ap (λ n. not (n == columns_of rows)) same))
+    ∙ ap (λ n. cond (nat_lt (position_or_len (λ r. not (length r == columns_of rows)) rows) n) (Some (position_or_len (λ r. not (length r == columns_of rows)) rows)) None) (length-set rows i row)
+    ∙ none

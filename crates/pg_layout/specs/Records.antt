@@ -1,5 +1,5 @@
 -- What records stand for: a list of rows, each a list of texts; and what the iterators give that read them.
-use Rattle.std.specs.Prelude.{◌≡◌, ℕ, ◌==◌, not, List, [], ◌∷◌, ◌++◌, codes, decimal, length, All, IfSome, position, slice_index_or, Option, Some, None}
+use Rattle.std.specs.Prelude.{◌≡◌, ℕ, ◌==◌, not, List, [], ◌∷◌, ◌++◌, codes, decimal, length, All, IfSome, position, slice_get, slice_index_or, slice_set, Option, Some, None}
 use Rattle.std.specs.Iterator.{Count, IsFinite}
 use Rattle.pg_layout.specs.Text.{Text}
 use Rattle.pg_layout.specs.declared.position.Position.{Position}
@@ -43,6 +43,13 @@ pub record IsGiven {I : Type 0} (stands : I → Table → Type 0) (r : Given I) 
 -- the text at a place, and none outside the table
 abbrev pub text_at : Table → Position → Text
 text_at texts p = slice_index_or (slice_index_or texts p.row []) p.col []
+
+-- the cell at a place, if there is one; and the rows with another cell there
+abbrev pub cell_of : {X : Type 0} → Position → List (List X) → Option X
+cell_of p rows = slice_get (slice_index_or rows p.row []) p.col
+
+abbrev pub with_cell : {X : Type 0} → Position → X → List (List X) → List (List X)
+with_cell p cell rows = slice_set rows p.row (slice_set (slice_index_or rows p.row []) p.col cell)
 
 -- how many cells the first row has
 abbrev pub columns_of : {X : Type 0} → List (List X) → ℕ

@@ -6,7 +6,7 @@ ghost use Rattle.std.specs.Result.{result_err};
 ghost use Rattle.std.specs.Iterator.{YieldsFirstBy, item_count, at_most};
 ghost use Rattle.std.specs.Vec.{vec_len};
 ghost use Rattle.std.specs.Vec.Iter.{into_iter_items, into_iter_len, into_iter_steps};
-ghost use Rattle.pg_layout.specs.Records.{columns_of, push_fault_text, ragged_row, records_fault_text, text_at};
+ghost use Rattle.pg_layout.specs.Records.{cell_of, columns_of, push_fault_text, ragged_row, records_fault_text, text_at, with_cell};
 ghost use Rattle.pg_layout.specs.Text.{lines_of};
 ghost use Rattle.pg_layout.specs.declared.vec_records.PushFault.TheVariants as push_fault;
 ghost use Rattle.pg_layout.specs.declared.vec_records.RecordsFault.TheVariants.{Ragged};
@@ -17,9 +17,9 @@ use crate::text::{count_lines, get_line, get_line_width, get_text_width};
 use std::alloc::{AllocFailed, Allocator, Global};
 use std::convert::AsStr;
 use std::error::Error;
-use std::fmt;
 use std::marker::Model;
 use std::vec::IntoIter;
+use std::{fmt, mem};
 
 /// The cells of a row in memory, as their texts.
 #[derive(Debug, Drop)]
@@ -233,6 +233,20 @@ impl<T: Drop, A: Allocator> VecRecords<T, A> {
                 Ok(())
             }
         }
+    }
+}
+
+impl<T: Drop, A: Allocator> VecRecords<T, A> {
+    /// Puts a cell in the place of another, which it returns. Outside of the records nothing changes,
+    /// and the cell is dropped.
+    pub fn replace(&mut self, pos: Position, cell: T) -> Option<T>
+        ensures cells { self.new ≡ with_cell pos cell self.old }
+        ensures former { result ≡ cell_of pos self.old }
+    {
+        if pos.row < self.rows.len() && pos.col < self.rows[pos.row].len() {
+            return Some(mem::replace(&mut self.rows[pos.row][pos.col], cell));
+        }
+        None
     }
 }
 
