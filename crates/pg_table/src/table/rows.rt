@@ -2,7 +2,7 @@
 //! their texts.
 
 ghost use Rattle.std.specs.Prelude.{◌≡◌, ◌&&◌, ◌++◌, ◌∷◌, [], ℕ, is_some, length, map, nat_lt, None, Some, Err, IfOk, IfSome, OnErr, OnOk};
-ghost use Rattle.pg_layout.specs.Records.{columns_of, ragged_row, text_at};
+ghost use Rattle.pg_layout.specs.Records.{cell_of, columns_of, ragged_row, text_at, with_cell};
 ghost use Rattle.pg_layout.specs.Text.{greatest};
 ghost use Rattle.pg_table.specs.Even.{IsNarrowLook};
 ghost use Rattle.pg_table.specs.OwnRows.{padded, padded_to, spaced_config, texts_of};
@@ -85,6 +85,22 @@ impl<T: Drop, A: Allocator> Table<T, A> {
             Err(PushFault::Ragged(number)) => Err(TableFault::Ragged(number)),
             Err(PushFault::Memory) => Err(TableFault::Memory),
         }
+    }
+}
+
+impl<T: Drop, A: Allocator> Table<T, A> {
+    /// Puts a text in the place of a cell's, which it returns. Outside of the table nothing changes, and
+    /// `None` is returned.
+    ///
+    /// ```text
+    /// table.set_text(Position::new(1, 1), "13");
+    /// ```
+    pub fn set_text(&mut self, pos: Position, text: T) -> Option<T>
+        ensures table { self.new ≡ record self.old { rows = with_cell pos text self.old.rows } }
+        ensures former { result ≡ cell_of pos self.old.rows }
+        ensures narrow { IsNarrowLook self.old.config → IsNarrowLook self.new.config }
+    {
+        self.records.replace(pos, text)
     }
 }
 
