@@ -13,7 +13,7 @@ use Rattle.pg_layout.specs.Colors.{Color}
 use Rattle.pg_layout.specs.Text.{Text, is_plain_byte, lines_of, text_width_of}
 use Rattle.pg_layout.specs.declared.position.Position.{Position}
 use Rattle.pg_config.specs.Config.{Config}
-use Rattle.pg_fit.specs.Controls.{sign_of, visible_text, is_control}
+use Rattle.pg_fit.specs.Controls.{sign_of, visible_text, is_control, is_letter, letters_width}
 use Rattle.ruled_table.specs.View.{block_fault, block_of, names_in, places_in, record_block, record_fault, HasNames}
 use Rattle.ruled_table.specs.Columns.{drawn_at, ellipsis, fields_at, texts_at, pairs_of}
 use Rattle.ruled_table.specs.Layouts.{abridged, fitting, line_of, turn, Plan}
@@ -33,7 +33,7 @@ use Rattle.std.proofs.lemmas.Bool.Decides.{nat_tests}
 use Rattle.std.specs.Str.{IsAscii}
 use Rattle.pg_layout.proofs.TextLines.{feed_place-plain, lines_of-one, text_width_of-plain}
 use Rattle.pg_fit.specs.Rows.{row_height}
-use Rattle.pg_fit.proofs.LawsOfControls.{visible_texts_stay}
+use Rattle.pg_fit.proofs.LawsOfControls.{letters_are_seen, visible_texts_stay}
 use Rattle.pg_table.specs.declared.overflow.Overflow.{Overflow}
 use Rattle.ruled_table.specs.Widths.{row_within, text_within}
 use Rattle.std.proofs.lemmas.List.Folds.{list_all-map}
@@ -409,7 +409,13 @@ field-plain [] (suc place) h = refl
 field-plain (text ∷ texts) zero h = (and_parts (list_all is_plain_byte text) (list_all (list_all is_plain_byte) texts) h).0
 field-plain (text ∷ texts) (suc place) h = field-plain texts place (and_parts (list_all is_plain_byte text) (list_all (list_all is_plain_byte) texts) h).1
 
--- where it has room, it is shown as it is
+-- a text that is shown unchanged, where it has room
+pub lent-within : (options : Options) (overflow : Overflow) (room : ℕ) (text : Text) → shown_text options text ≡ text → text_width_of text ≤ room → text ≡ text_within overflow room (shown_text options text)
+lent-within options overflow room text same fits =
+    let narrow : nat_le (text_width_of text) room ≡ true = grind (arith, nat_tests, fits) in
+    sym (ap (text_within overflow room) same ∙ rw narrow refl)
+
+-- so is a plain field
 pub plain-within : (options : Options) (overflow : Overflow) (room : ℕ) (texts : List Text) (place : ℕ) → map (shown_text options) texts ≡ texts → list_all (list_all is_plain_byte) texts ≡ true
     → length (slice_index_or texts place []) ≤ room → slice_index_or texts place [] ≡ text_within overflow room (shown_text options (slice_index_or texts place []))
 plain-within options overflow room texts place stand plain fits =
@@ -417,8 +423,26 @@ plain-within options overflow room texts place stand plain fits =
     let shown : slice_index_or (map (shown_text options) texts) place [] ∷ [] ≡ shown_text options text ∷ [] = row-shown options texts (Some place ∷ []) in
     let there : slice_index_or (map (shown_text options) texts) place [] ≡ text = ap (λ (ts : List Text). slice_index_or ts place []) stand in
     let same : shown_text options text ≡ text = cc in
-    let narrow : nat_le (text_width_of text) room ≡ true = grind (arith, nat_tests, text_width_of-plain text (field-plain texts place plain), fits) in
-    sym (ap (text_within overflow room) same ∙ rw narrow refl)
+    lent-within options overflow room text same (omega (arith, text_width_of-plain text (field-plain texts place plain), fits))
+
+-- letters alone are shown as they are, on one line
+letters-all : (text : Text) (b : Bool) (n : ℕ) → list_all is_letter (chars text) ≡ b → Some n ≡ (if b then Some (text_width_of text) else None) → (list_all is_letter (chars text) ≡ true) × (n ≡ text_width_of text)
+letters-all text true n is found = (is, same_Some n (text_width_of text) found)
+letters-all text false n is found = absurd (none-some _ (sym found))
+
+pub letters-some : (text : Text) (n : ℕ) → Some n ≡ letters_width text → (list_all is_letter (chars text) ≡ true) × (n ≡ text_width_of text)
+letters-some text n found = letters-all text (list_all is_letter (chars text)) n refl found
+
+pub letters_found : (text : Text) (n : ℕ) → Some n ≡ letters_width text → n ≡ text_width_of text
+letters_found text n found = (letters-some text n found).1
+
+pub letters-stand : (options : Options) → options.is_markdown ≡ false → (text : Text) → IsUtf8 text → list_all is_letter (chars text) ≡ true → shown_text options text ≡ text
+letters-stand options none text utf8 letters =
+    let seen = visible_texts_stay text utf8 (letters_are_seen text letters) in
+    elim (cases_Bool options.is_raw) [
+      | inl raw ↦ rw (none, raw) refl
+      | inr not_raw ↦ rw (none, not_raw) seen
+    ]
 
 pub plain-line : (texts : List Text) (place : ℕ) → list_all (list_all is_plain_byte) texts ≡ true → length (lines_of (slice_index_or texts place [])) ≡ 1
 plain-line texts place plain = ap (λ (ls : List Text). length ls) (lines_of-one (slice_index_or texts place []) (feed_place-plain (slice_index_or texts place []) (field-plain texts place plain)))

@@ -15,7 +15,7 @@ use crate::options::Options;
 use crate::rows::has_plain_fields;
 use crate::sides::{is_numeric, lent_body};
 use pg_config::SpannedConfig;
-use pg_fit::{ColumnRange, narrow};
+use pg_fit::{ColumnRange, letters_width, narrow};
 use pg_layout::{Records, get_text_width};
 use ruled_row::TextRow;
 use std::alloc::{AllocError, Global};
@@ -31,6 +31,17 @@ pub(crate) fn widest_text(rows: LentRows<'_>, column: usize) -> usize
     width
 }
 
+// How many terminal columns a text takes. Most texts have letters alone, whose width is found by one walk.
+#[tactic(auto, using(crate::proofs::LentTexts::letters_found))]
+fn text_width(text: &str) -> usize
+    ensures { result ≡ text_width_of text.now }
+{
+    match letters_width(text) {
+        Some(width) => width,
+        None => get_text_width(text),
+    }
+}
+
 // How many terminal columns the text of a row in a column takes: a plain one as many as it has bytes.
 #[inline(always)]
 fn width_at(is_plain: bool, fields: &TextRow, place: Option<usize>) -> usize
@@ -39,7 +50,7 @@ fn width_at(is_plain: bool, fields: &TextRow, place: Option<usize>) -> usize
 {
     match place {
         Some(place) if is_plain => field_at(fields, place).len(),
-        _ => get_text_width(drawn_at(fields, place)),
+        _ => text_width(drawn_at(fields, place)),
     }
 }
 

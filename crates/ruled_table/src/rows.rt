@@ -13,7 +13,7 @@ use crate::columns::field_at;
 use crate::escapes::{escaped, is_plain_text};
 use crate::numbers::GAP;
 use crate::options::Options;
-use pg_fit::{is_visible, visible};
+use pg_fit::{is_printable, is_visible, visible};
 use pg_layout::is_plain;
 use ruled_row::TextRow;
 use std::alloc::{AllocError, Global};
@@ -82,14 +82,16 @@ pub(crate) fn has_plain_fields(fields: &TextRow) -> bool
     is_plain(fields.text().as_bytes())
 }
 
-/// Whether each field of a record is a line of ASCII that is shown unchanged. All are tested at once, which costs less
-/// than a test of each.
+/// Whether each field of a record is a line of printable ASCII that is shown unchanged. All are tested at once, which
+/// costs less than a test of each.
 pub(crate) fn is_plain_record(options: &Options, fields: &TextRow) -> bool
     ensures unchanged { result ≡ true → map (shown_text options.now) (fields_of fields.now) ≡ fields_of fields.now }
     ensures plain { result ≡ true → list_all (list_all is_plain_byte) (fields_of fields.now) ≡ true }
 {
-    let text = fields.text();
-    !options.is_markdown && is_plain(text.as_bytes()) && is_visible(text)
+    if options.is_markdown {
+        return false;
+    }
+    is_printable(fields.text().as_bytes())
 }
 
 // Whether each field of a record is shown unchanged, one after another.

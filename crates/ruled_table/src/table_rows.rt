@@ -1,7 +1,7 @@
 //! The rows of a table, each of which may come after others are drawn.
 
 ghost use Rattle.std.specs.Cow.{cow_str_bytes};
-ghost use Rattle.std.specs.Prelude.{◌≡◌, ◌<◌, ◌≤◌, ◌++◌, ◌∷◌, [], List, length, map, take, string_bytes, true, Err, IfOk, IfSome, OnErr, OnOk};
+ghost use Rattle.std.specs.Prelude.{◌≡◌, ◌<◌, ◌≤◌, ◌++◌, ◌∷◌, [], List, length, map, take, string_bytes, false, true, Err, IfOk, IfSome, OnErr, OnOk};
 ghost use Rattle.std.specs.List.{list_all};
 ghost use Rattle.csv.specs.Records.{fields_of};
 ghost use Rattle.pg_layout.specs.Text.{Text, is_plain_byte, lines_of};
@@ -26,6 +26,7 @@ use crate::row_lines::RowLines;
 use crate::rows::{is_plain_record, shown_text, stands};
 use crate::view::ViewFault;
 use crate::widths::{lent_within, room_of};
+use pg_fit::letters_width;
 use pg_layout::{ConstantDimension, get_text_width};
 use ruled_row::TextRow;
 use std::alloc::{AllocError, Global};
@@ -93,21 +94,35 @@ fn cells_shown<'a>(
     Ok(cells)
 }
 
-// The most columns of a table whose plain rows take no memory.
+// The most columns of a table of which rows that are shown unchanged take no memory.
 const FEW: usize = 16;
 
-// The text that is shown of a plain record in a column, if it has room there.
-fn plain_cell<'a>(room: usize, fields: &'a TextRow, place: Option<usize>) -> Option<&'a str>
-    ensures cell { (options : Options) → map (shown_text options) (fields_of fields.now) ≡ fields_of fields.now → list_all (list_all is_plain_byte) (fields_of fields.now) ≡ true
-        → IfSome result (λ cell. cell.now ≡ spec.text_within options.bounds.overflow room (shown_text options (drawn_at (fields_of fields.now) place))) }
-    ensures single { list_all (list_all is_plain_byte) (fields_of fields.now) ≡ true → IfSome result (λ cell. length (lines_of cell.now) ≡ 1) }
+// The text that is shown of a record in a column, unless it is for Markdown: if it is a line, shown unchanged, and has
+// room there. Of a plain record only the room is tested, and of any other one whether the text has letters alone.
+fn lent_cell<'a>(
+    options: &Options,
+    is_plain: bool,
+    room: usize,
+    fields: &'a TextRow,
+    place: Option<usize>,
+) -> Option<&'a str>
+    requires others { options.now.is_markdown ≡ false }
+    requires unchanged { is_plain ≡ true → map (shown_text options.now) (fields_of fields.now) ≡ fields_of fields.now }
+    requires plain { is_plain ≡ true → list_all (list_all is_plain_byte) (fields_of fields.now) ≡ true }
+    ensures cell { IfSome result (λ cell. cell.now ≡ spec.text_within options.now.bounds.overflow room (shown_text options.now (drawn_at (fields_of fields.now) place))) }
+    ensures single { IfSome result (λ cell. length (lines_of cell.now) ≡ 1) }
 {
     let text = field_at(fields, place?);
-    if text.len() <= room { Some(text) } else { None }
+    if is_plain {
+        return if text.len() <= room { Some(text) } else { None };
+    }
+    let width = letters_width(text)?;
+    if width <= room { Some(text) } else { None }
 }
 
-// Writes the texts that are shown of a row to the first of these cells, and says whether it is plain and each has room.
-fn fill_plain<'a>(
+// Writes the texts that are shown of a row to the first of these cells, and says whether each is a line that is shown
+// unchanged and has room.
+fn fill_lent<'a>(
     options: &Options,
     places: &[Option<usize>],
     widths: &ConstantDimension,
@@ -118,11 +133,12 @@ fn fill_plain<'a>(
     ensures cells { result ≡ true → map (λ cell. cell.now) (take (length places.now) cells.new) ≡ spec.row_within options.now.bounds.overflow (spec.widths_in widths.now) (shown_row options.now places.now (fields_of fields.now)) }
     ensures single { result ≡ true → row_height (map (λ cell. cell.now) (take (length places.now) cells.new)) ≡ 1 }
 {
-    if places.is_empty() || places.len() > cells.len() || !is_plain_record(options, fields) {
+    if options.is_markdown || places.is_empty() || places.len() > cells.len() {
         return false;
     }
+    let is_plain = is_plain_record(options, fields);
     for (column, place) in places.iter().enumerate() {
-        match plain_cell(room_of(widths, column), fields, *place) {
+        match lent_cell(options, is_plain, room_of(widths, column), fields, *place) {
             Some(cell) => cells[column] = cell,
             None => return false,
         }
@@ -166,9 +182,9 @@ impl<'a> TableRows<'a> {
     {
         let layout = self.layout;
         let (places, widths) = (&layout.places, &layout.widths);
-        let mut plain = [""; FEW];
-        if fill_plain(self.options, places, widths, fields, &mut plain) {
-            return self.rows.push_lent(&plain[..places.len()], buf);
+        let mut lent = [""; FEW];
+        if fill_lent(self.options, places, widths, fields, &mut lent) {
+            return self.rows.push_lent(&lent[..places.len()], buf);
         }
         let cells = cells_shown(self.alloc, self.options, places, widths, fields)?;
         self.rows.push(cells, buf)

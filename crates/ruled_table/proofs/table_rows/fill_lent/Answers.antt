@@ -1,18 +1,17 @@
 use Rattle.std.proofs.Common.{◌≡◌, ◌<◌, ◌≤◌, ◌∙◌, ◌∷◌, ◌++◌, ◌+◌, ◌==◌, [], ℕ, List, None, Option, length, map, max, min, set, slice_index_or, sym, take, true, false, ap, arith, rules}
 use Rattle.std.specs.Borrow.{Bor}
-use Rattle.std.specs.List.{list_all}
 use Rattle.std.proofs.lemmas.List.{length-set, length-take-le, map-append, take_more_set}
 use Rattle.std.proofs.lemmas.Bool.Decides.{nat_tests}
 use Rattle.std.proofs.lemmas.Grind.{common_steps}
 use Rattle.csv.specs.Records.{fields_of}
-use Rattle.pg_layout.specs.Text.{Text, is_plain_byte, lines_of}
+use Rattle.pg_layout.specs.Text.{Text, lines_of}
 use Rattle.pg_fit.specs.Rows.{row_height}
 use Rattle.ruled_table.specs.Columns.{drawn_at}
 use Rattle.ruled_table.specs.Shown.{shown_text}
 use Rattle.ruled_table.specs.Widths.{room_of, text_within, widths_in}
 use Rattle.ruled_table.proofs.LentTexts.{height-push}
 use Rattle.ruled_table.proofs.RowsInParts.{within-all, within-next}
-use Rattle.ruled_table.proofs.table_rows.fill_plain.Goals as goal
+use Rattle.ruled_table.proofs.table_rows.fill_lent.Goals as goal
 
 -- the texts of cells of which one more is written
 written : (cells : List (Bor Text)) (i : ℕ) (cell : Bor Text) → i < length cells → map (λ c. c.now) (take (i + 1) (set cells i cell)) ≡ map (λ c. c.now) (take i cells) ++ cell.now ∷ []
@@ -31,10 +30,8 @@ loop-column-preserved c =
     let inside : i < length old = omega (arith, c.loop-column.invariant.many) in
     let next = written old i cell inside in
     let lent : length (take i old) ≡ i = length-take-le i old (omega (arith, inside)) in
-    let stand : map (shown_text options) fields ≡ fields = c.is_plain_record.ensures.unchanged (search rules) in
-    let plain : list_all (list_all is_plain_byte) fields ≡ true = c.is_plain_record.ensures.plain (search rules) in
-    let line : length (lines_of cell.now) ≡ 1 = c.in-Some.ensures.single plain in
-    let here : cell.now ≡ text_within options.bounds.overflow (room_of width i) (shown_text options (drawn_at fields (slice_index_or places i None))) = search (rules, c.in-Some.ensures.cell options stand plain) in
+    let line : length (lines_of cell.now) ≡ 1 = c.in-Some.ensures.single in
+    let here : cell.now ≡ text_within options.bounds.overflow (room_of width i) (shown_text options (drawn_at fields (slice_index_or places i None))) = search (rules, c.in-Some.ensures.cell) in
     let is : cell.now ≡ text_within options.bounds.overflow (room_of width (length (take i old))) (shown_text options (drawn_at fields (slice_index_or places i None))) = rw lent here in
     record {
       many = omega (arith, c.loop-column.invariant.many, length-set old i cell);
