@@ -19,6 +19,7 @@ use Rattle.pg_picture.specs.Fits.{spans_fit, totals_fit}
 use Rattle.pg_picture.proofs.StraightColumns.{columns_are_straight, margins_are_straight}
 use Rattle.pg_picture.proofs.Separators.{missing_glyph_fills_gaps}
 use Rattle.pg_table.specs.Even.{HasNarrowLines, HasEvenLines, IsEven, IsEvenText, HasNarrowSides, IsNarrowLook, is_line_glyph, is_line_glyph_if, are_line_glyphs, is_of_line_glyphs, are_line_fills}
+use Rattle.pg_table.specs.declared.sizes.Axis.TheVariants.{Columns}
 use Rattle.pg_table.specs.Natural.{natural_table}
 use Rattle.pg_table.specs.Printing.{fault_of, Parts, ascii_config, with_header_line}
 use Rattle.pg_table.proofs.NaturalRoom.{table-fits}
@@ -27,8 +28,8 @@ use Rattle.std.proofs.lemmas.List.{length-map}
 use Rattle.std.proofs.lemmas.Str.{chars-nil}
 use Rattle.pg_layout.specs.declared.alignment.AlignmentHorizontal.{AlignmentHorizontal}
 use Rattle.pg_config.specs.LineGlyphs.{with_line_glyphs}
-use Rattle.pg_table.specs.OwnRows.{spaced_config, titled}
-use Rattle.pg_table.specs.Panels.{with_title, with_inner_line}
+use Rattle.pg_table.specs.OwnRows.{own_sizes, spaced_config, titled, titled_at}
+use Rattle.pg_table.specs.Panels.{with_title, with_title_at, with_inner_line}
 use Rattle.std.specs.List.{list_all, range_with_len}
 use Rattle.unicode_width.proofs.Computing.{unicode_width}
 use Rattle.pg_layout.specs.declared.borders.Borders.{Borders}
@@ -138,18 +139,23 @@ pub no_text : (text : Text) → (length text == 0) ≡ true → text ≡ []
 no_text [] none = refl
 no_text (c ∷ cs) none = let some : (length (c ∷ cs) == 0) ≡ false = grind (arith, nat_tests) in absurd (false≢true (sym some ∙ none))
 
-module _ {T : Type 0} (text : T → Text) (r : ℕ) (side : AlignmentHorizontal) (t : Parts T) where
-  pub untitled-absent : (title : Text) → has_horizontal t.config r (length t.rows) ≡ false → titled r side title text t ≡ t
-  unfolding with_title with_line_glyphs
-  untitled-absent title absent = rw (length-map t.rows (λ row. map text row), absent) refl
+module _ {T : Type 0} (r : ℕ) (side : AlignmentHorizontal) (t : Parts T) where
+  pub untitled-absent : (title : Text) (widths : List ℕ) → has_horizontal t.config r (length t.rows) ≡ false → titled_at r side title widths t ≡ t
+  unfolding with_title_at with_line_glyphs
+  untitled-absent title widths absent = rw absent refl
 
-  pub untitled-empty : (title : Text) → title ≡ [] → titled r side title text t ≡ t
-  unfolding with_title with_line_glyphs
-  untitled-empty title empty =
+  pub untitled-empty : (title : Text) (widths : List ℕ) → title ≡ [] → titled_at r side title widths t ≡ t
+  unfolding with_title_at with_line_glyphs
+  untitled-empty title widths empty =
       elim (cases_Bool (has_horizontal t.config r (length t.rows))) [
-        | inl there ↦ rw (empty, chars-nil, length-map t.rows (λ row. map text row), there) refl
-        | inr absent ↦ untitled-absent title absent
+        | inl there ↦ rw (empty, chars-nil, there) refl
+        | inr absent ↦ untitled-absent title widths absent
       ]
+
+  -- a title by the natural widths
+  pub titled-natural : (text : T → Text) (title : Text) → titled r side title text t ≡ titled_at r side title (own_sizes Columns text t) t
+  unfolding with_title
+  titled-natural text title = rw (length-map t.rows (λ row. map text row)) refl
 
 -- ---- looks, lines below a header and paddings that take one column a glyph
 

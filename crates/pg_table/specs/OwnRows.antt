@@ -1,5 +1,5 @@
 -- A table with rows of its own: its sizes, and the tables that its settings make of it.
-use Rattle.std.specs.Prelude.{ℕ, ◌-◌, ◌++◌, List, map, length, replicate, Option, ◌==◌, ◌&&◌, ◌||◌, ◌≤◌, Bool, nat_lt, if◌then◌else◌}
+use Rattle.std.specs.Prelude.{ℕ, ◌-◌, ◌++◌, ◌∷◌, [], List, map, length, replicate, Option, ◌==◌, ◌&&◌, ◌||◌, ◌≤◌, Bool, nat_lt, if◌then◌else◌}
 use Rattle.pg_layout.specs.declared.alignment.AlignmentHorizontal.{AlignmentHorizontal}
 use Rattle.pg_layout.specs.declared.borders.Borders.{Borders}
 use Rattle.pg_layout.specs.declared.borders.HorizontalLine.{HorizontalLine}
@@ -12,7 +12,7 @@ use Rattle.pg_layout.specs.Sides.{spaces}
 use Rattle.pg_layout.specs.Text.{Text, greatest}
 use Rattle.pg_config.specs.Config.{Config, default_config}
 use Rattle.pg_config.specs.Settings.{with_setting}
-use Rattle.pg_table.specs.Panels.{with_span_crossings, with_title}
+use Rattle.pg_table.specs.Panels.{panelled, with_span_crossings, with_title, with_title_at}
 use Rattle.pg_table.specs.Natural.{natural_sizes}
 use Rattle.pg_table.specs.Printing.{Parts, sizes_fault, with_header_line}
 use Rattle.pg_table.specs.declared.fault.TableFault.{TableFault}
@@ -35,6 +35,12 @@ padded_to columns filler row = row ++ replicate (columns - length row) filler
 -- rows that are all as long as the longest of them
 abbrev pub padded : {T : Type 0} → T → List (List T) → List (List T)
 padded filler rows = map (padded_to (greatest (map (λ row. length row) rows)) filler) rows
+
+-- one row more, a panel of this text: with as many cells as the others, or with one where there are none
+abbrev pub with_panel_row : {T : Type 0} → T → Parts T → Parts T
+with_panel_row text t =
+    let cells = if length t.rows == 0 then 1 else columns_of t.rows in
+    panelled (length t.rows) (record t { rows = t.rows ++ padded_to cells text [] ∷ [] })
 
 -- ---- texts beside each other: no borders, and so many spaces left of each text but the first
 
@@ -66,6 +72,13 @@ crossed borders t = record t { config = with_span_crossings borders (length t.ro
 -- with a title over row line r
 abbrev pub titled : {T : Type 0} → ℕ → AlignmentHorizontal → Text → (T → Text) → Parts T → Parts T
 titled r side title text t = record t { config = with_title r side title (texts_of text t) (columns_of t.rows) t.config }
+
+-- the same where columns have these widths; and one over the line below the last row
+abbrev pub titled_at : {T : Type 0} → ℕ → AlignmentHorizontal → Text → List ℕ → Parts T → Parts T
+titled_at r side title widths t = record t { config = with_title_at r side title widths (length t.rows) (columns_of t.rows) t.config }
+
+abbrev pub captioned : {T : Type 0} → AlignmentHorizontal → Text → (T → Text) → Parts T → Parts T
+captioned side caption text t = titled (length t.rows) side caption text t
 
 -- with the texts of some cells at this side
 abbrev pub aligned : {T : Type 0} → Entity → AlignmentHorizontal → Parts T → Parts T

@@ -70,7 +70,9 @@ abbrev pub with_title_glyphs : ℕ → AlignmentHorizontal → List ℕ → List
 with_title_glyphs r side glyphs widths rows columns config =
     with_line_glyphs r rows columns (λ c. slice_index_or widths c 0) (title_start side (length glyphs) (title_room config widths columns)) glyphs config
 
--- the title over row line r of the table of these texts at its natural sizes
+-- the title over row line r of a table of so many rows and columns of these widths; and of the table of these texts at its natural sizes
+unfoldable pub with_title_at : ℕ → AlignmentHorizontal → Text → List ℕ → ℕ → ℕ → Config → Config
+with_title_at r side title widths rows columns config = with_title_glyphs r side (map title_glyph (chars title)) widths rows columns config
+
 unfoldable pub with_title : ℕ → AlignmentHorizontal → Text → List (List Text) → ℕ → Config → Config
-with_title r side title texts columns config =
-    with_title_glyphs r side (map title_glyph (chars title)) (natural_sizes Columns config texts columns) (length texts) columns config
+with_title r side title texts columns config = with_title_at r side title (natural_sizes Columns config texts columns) (length texts) columns config

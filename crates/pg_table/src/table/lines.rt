@@ -53,8 +53,10 @@ impl<T: AsStr + Drop, A: Allocator> Table<T, A> {
         ensures narrow { IsNarrowLook self.config → is_of_line_glyphs line ≡ true → IfOk result (λ table. IsNarrowLook table.config) }
         ensures memory { (fault : TableFault) → result ≡ Err fault → fault ≡ TableFault.Memory }
     {
-        let set = self.set_row_line(row, line);
-        self.if_set(set)
+        match self.set_row_line(row, line) {
+            Ok(()) => Ok(self),
+            Err(error) => Err(error.into()),
+        }
     }
 
     /// Draws a line above the last row, such as a row of sums ([`Table::set_row_line`]). A table of
@@ -87,7 +89,9 @@ impl<T: AsStr + Drop, A: Allocator> Table<T, A> {
         ensures narrow { IsNarrowLook self.config → is_of_line_glyphs line ≡ true → IfOk result (λ table. IsNarrowLook table.config) }
         ensures memory { (fault : TableFault) → result ≡ Err fault → fault ≡ TableFault.Memory }
     {
-        let set = self.set_foot_line(line);
-        self.if_set(set)
+        match self.set_foot_line(line) {
+            Ok(()) => Ok(self),
+            Err(error) => Err(error.into()),
+        }
     }
 }

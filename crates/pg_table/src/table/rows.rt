@@ -1,11 +1,11 @@
 //! The rows of a table: those of several lengths, one of texts beside each other, one more, how many there are, and
 //! their texts.
 
-ghost use Rattle.std.specs.Prelude.{◌≡◌, ◌&&◌, ◌++◌, ◌∷◌, [], ℕ, is_some, length, map, nat_lt, None, Some, Err, IfOk, IfSome, OnErr, OnOk};
+ghost use Rattle.std.specs.Prelude.{◌≡◌, ◌==◌, ◌&&◌, ◌++◌, ◌∷◌, [], ℕ, if◌then◌else◌, is_some, length, map, nat_lt, None, Some, Err, IfOk, IfSome, OnErr, OnOk};
 ghost use Rattle.pg_layout.specs.Records.{cell_of, columns_of, ragged_row, text_at, with_cell};
 ghost use Rattle.pg_layout.specs.Text.{greatest};
 ghost use Rattle.pg_table.specs.Even.{IsNarrowLook};
-ghost use Rattle.pg_table.specs.OwnRows.{padded, padded_to, spaced_config, texts_of};
+ghost use Rattle.pg_table.specs.OwnRows.{padded, padded_to, spaced_config, texts_of, with_panel_row};
 ghost use Rattle.pg_table.specs.Printing.{ascii_config};
 
 use crate::fault::TableFault;
@@ -85,6 +85,42 @@ impl<T: Drop, A: Allocator> Table<T, A> {
             Err(PushFault::Ragged(number)) => Err(TableFault::Ragged(number)),
             Err(PushFault::Memory) => Err(TableFault::Memory),
         }
+    }
+}
+
+impl<T: AsStr + Drop + Copy, A: Allocator> Table<T, A> {
+    /// The table with one more row below the others, whose first cell takes all columns: a panel of
+    /// this text. It has as many cells as the other rows, all of this text; without rows it has one.
+    ///
+    /// The lines above and below keep their crossings until [`Table::with_span_crossings`] redraws them,
+    /// also those of the frame. The only error is `Memory`, after which the table is dropped.
+    ///
+    /// ```text
+    /// let table = table.with_panel_row(alloc, "2 items")?.with_span_crossings(alloc, Borders::modern())?;
+    /// ```
+    pub fn with_panel_row(mut self, alloc: A, text: T) -> Result<Table<T, A>, TableFault>
+    where
+        A: Clone,
+        ensures ok { IfOk result (λ table. table ≡ with_panel_row text self) }
+        ensures memory { (fault : TableFault) → result ≡ Err fault → fault ≡ TableFault.Memory }
+        ensures narrow { IsNarrowLook self.config → IfOk result (λ table. IsNarrowLook table.config) }
+    {
+        let rows = self.count_rows();
+        let mut row = Vec::new(alloc);
+        pad_row(&mut row, self.count_panel_cells(), text)?;
+        // A row of as many cells as the others is refused only if memory is.
+        match self.push_row(row) {
+            Ok(()) => self.with_panel(rows),
+            Err(_) => Err(TableFault::Memory),
+        }
+    }
+
+    // How many cells a panel's row has: as many as the other rows, or one without rows.
+    fn count_panel_cells(&self) -> usize
+        ensures { result ≡ (if length self.now.rows == 0 then 1 else columns_of self.now.rows) }
+    {
+        let (rows, columns) = self.size();
+        if rows == 0 { 1 } else { columns }
     }
 }
 

@@ -105,8 +105,10 @@ impl<T: AsStr + Drop, A: Allocator> Table<T, A> {
         ensures one { columns_of self.rows ≡ 1 → IsOk result }
         ensures narrow { IsNarrowLook self.config → IfOk result (λ table. IsNarrowLook table.config) }
     {
-        let set = self.set_panel(row);
-        self.if_set(set)
+        match self.set_panel(row) {
+            Ok(()) => Ok(self),
+            Err(error) => Err(error.into()),
+        }
     }
 }
 

@@ -1,11 +1,11 @@
 //! Titles over the lines of a table.
 
-ghost use Rattle.std.specs.Prelude.{◌≡◌, ◌==◌, ◌&&◌, not, false, ℕ, [], map, chars, encode_utf8, length, Some, None, Err, OnOk, OnErr, IfOk, IsOk, if◌then◌else◌};
+ghost use Rattle.std.specs.Prelude.{◌≡◌, ◌==◌, ◌&&◌, not, false, ℕ, List, [], map, chars, encode_utf8, length, Some, None, Err, OnOk, OnErr, IfOk, IsOk, if◌then◌else◌};
 ghost use Rattle.pg_layout.specs.declared.alignment.AlignmentHorizontal.{AlignmentHorizontal};
 ghost use Rattle.pg_layout.specs.Records.{columns_of};
 ghost use Rattle.pg_layout.specs.Text.{width_of};
 ghost use Rattle.pg_config.specs.Config.{has_horizontal};
-ghost use Rattle.pg_table.specs.OwnRows.{own_sizes_fault, titled};
+ghost use Rattle.pg_table.specs.OwnRows.{captioned, own_sizes_fault, titled, titled_at};
 ghost use Rattle.pg_table.specs.Panels.{title_glyph, title_room, title_start, with_title_glyphs};
 
 use crate::fault::TableFault;
@@ -52,8 +52,7 @@ impl<T: AsStr + Drop, A: Allocator + Copy> Table<T, A> {
             };
         }
         let dimension = self.natural_dimension(alloc)?;
-        let glyphs = title_glyphs(alloc, title)?;
-        match self.set_title_glyphs(alloc, row, side, &dimension, &glyphs) {
+        match self.set_title_at(alloc, row, title, side, &dimension) {
             Ok(()) => Ok(()),
             Err(error) => Err(error.into()),
         }
@@ -62,7 +61,7 @@ impl<T: AsStr + Drop, A: Allocator + Copy> Table<T, A> {
     // Whether a title over row line `row` is seen: it has a character, and the line exists.
     #[tactic(auto, using(crate::proofs::StraightTables::untitled_lines))]
     fn shows_title(&self, row: usize, title: &str) -> bool
-        ensures same { result ≡ false → (side : AlignmentHorizontal) → titled row side title.now T.text self.now ≡ self.now }
+        ensures same { result ≡ false → (side : AlignmentHorizontal) (widths : List ℕ) → titled_at row side title.now widths self.now ≡ self.now }
         ensures empty { title.now ≡ [] → result ≡ false }
         ensures absent { has_horizontal self.now.config row (length self.now.rows) ≡ false → result ≡ false }
     {
@@ -72,13 +71,44 @@ impl<T: AsStr + Drop, A: Allocator + Copy> Table<T, A> {
         self.config.has_horizontal(row, self.count_rows())
     }
 
+    /// Puts a title over row line `row` ([`Table::set_title`]) where columns have these widths, such
+    /// as those of a table within a width.
+    ///
+    /// If memory is refused, nothing changes. An empty title, or one over a line that doesn't exist,
+    /// allocates nothing.
+    ///
+    /// ```text
+    /// let sizes = table.within(alloc, 40, how)?.natural_dimension(alloc)?;
+    /// table.set_title_at(alloc, 0, "Orders", AlignmentHorizontal::Left, &sizes)?;
+    /// table.within(alloc, 40, how)?.print(alloc, &mut buf)?;
+    /// ```
+    pub fn set_title_at<B: Allocator>(
+        &mut self,
+        alloc: A,
+        row: usize,
+        title: &str,
+        side: AlignmentHorizontal,
+        dimension: &ConstantDimension<B>,
+    ) -> Result<(), AllocError>
+        ensures ok { OnOk result (self.new ≡ titled_at row side title.now dimension.now.0.items self.old) }
+        ensures err { OnErr result (self.new ≡ self.old) }
+        ensures empty { title.now ≡ [] → IsOk result }
+        ensures absent { has_horizontal self.old.config row (length self.old.rows) ≡ false → IsOk result }
+    {
+        if self.shows_title(row, title) {
+            let glyphs = title_glyphs(alloc, title)?;
+            return self.set_title_glyphs(alloc, row, side, dimension, &glyphs);
+        }
+        Ok(())
+    }
+
     // Puts the glyphs of a title over row line `row`, for columns of these widths.
-    fn set_title_glyphs(
+    fn set_title_glyphs<B: Allocator>(
         &mut self,
         alloc: A,
         row: usize,
         side: AlignmentHorizontal,
-        dimension: &ConstantDimension<A>,
+        dimension: &ConstantDimension<B>,
         glyphs: &[char],
     ) -> Result<(), AllocError>
         ensures ok { OnOk result (self.new ≡ record self.old {
@@ -90,6 +120,48 @@ impl<T: AsStr + Drop, A: Allocator + Copy> Table<T, A> {
         let start = title_start(&self.config, size.1, &dimension.0, side, glyphs.len());
         self.config
             .set_line_glyphs(alloc, row, size, dimension, start, glyphs)
+    }
+
+    /// Puts a caption over the line below the last row, as [`Table::set_title`] puts a title.
+    ///
+    /// ```text
+    /// table.set_caption(alloc, "2 items", AlignmentHorizontal::Right)?; // ╰──2 items╯
+    /// ```
+    pub fn set_caption(
+        &mut self,
+        alloc: A,
+        caption: &str,
+        side: AlignmentHorizontal,
+    ) -> Result<(), TableFault>
+        ensures ok { OnOk result (self.new ≡ captioned side caption.now T.text self.old) }
+        ensures err { OnErr result (self.new ≡ self.old) }
+        ensures fault { (fault : TableFault) → own_sizes_fault T.text self.old ≡ Some fault → result ≡ Err fault }
+        ensures memory { (fault : TableFault) → own_sizes_fault T.text self.old ≡ None → result ≡ Err fault → fault ≡ TableFault.Memory }
+        ensures empty { caption.now ≡ [] → own_sizes_fault T.text self.old ≡ None → IsOk result }
+    {
+        let below = self.count_rows();
+        self.set_title(alloc, below, caption, side)
+    }
+
+    /// Puts a caption over the line below the last row of a table by value ([`Table::set_caption`]).
+    /// After an error the table is dropped.
+    ///
+    /// ```text
+    /// let table = table.with_caption(alloc, "2 items", AlignmentHorizontal::Right)?;
+    /// ```
+    pub fn with_caption(
+        self,
+        alloc: A,
+        caption: &str,
+        side: AlignmentHorizontal,
+    ) -> Result<Table<T, A>, TableFault>
+        ensures ok { IfOk result (λ table. table ≡ captioned side caption.now T.text self) }
+        ensures fault { (fault : TableFault) → own_sizes_fault T.text self ≡ Some fault → result ≡ Err fault }
+        ensures memory { (fault : TableFault) → own_sizes_fault T.text self ≡ None → result ≡ Err fault → fault ≡ TableFault.Memory }
+        ensures empty { caption.now ≡ [] → own_sizes_fault T.text self ≡ None → IsOk result }
+    {
+        let below = self.count_rows();
+        self.with_title(alloc, below, caption, side)
     }
 
     /// Puts a title over row line `row` of a table by value ([`Table::set_title`]). After an error
