@@ -1,16 +1,48 @@
 """The crates of the repository, as crates.txt lists them, its version, the logic that it is proved with, its documents, and the
-functions of a source.
+functions of a source; the options of the command `ruled`, as its own `--help` describes them, and the files of an installed one, as
+they lie below a prefix; and what proving costs: the figures of the last measured run of the gate, and this machine beside its own.
 
 `python3 tools/repository.py NAME` prints those below a crate, lowest first, and then that one.
 """
+import dataclasses
+import gzip
+import os
+import pathlib
 import re
+import resource
+import shutil
+import subprocess
 import sys
-from pathlib import Path
+import tempfile
 from typing import NamedTuple, Optional
 
-TOP = Path(__file__).resolve().parent.parent
+HERE = pathlib.Path(__file__).resolve().parent
+TOP = HERE.parent
 VERSION, LOGIC = (line.split()[1] for line in (TOP / "VERSION").read_text().splitlines())
 PAGES = sorted([*TOP.glob("*.md"), *TOP.glob("docs/**/*.md"), *TOP.glob("crates/*/*.md")])
+COMPLETIONS = {
+    "bash": "share/bash-completion/completions/ruled",
+    "zsh": "share/zsh/vendor-completions/_ruled",
+    "fish": "share/fish/vendor_completions.d/ruled.fish",
+}
+PROGRAM, COMMAND, PAGE = "lib/ruled/ruled", "bin/ruled", "share/man/man1/ruled.1.gz"
+FILES = [PROGRAM, COMMAND, PAGE, *COMPLETIONS.values()]
+ROW = re.compile(r" +(?:-(\w), )?--([\w-]+)(?:(\[=)?[ ]?<([\w]+)>\]?)?  +(.+)")
+VALUES = re.compile(r" \[possible values: ([^\]]+)\]")
+CRATE = re.compile(r" *(\d+)  (\w+)$", re.M)
+HEX = re.compile(r"times hex, which took ([\d.]+)")
+
+# The installed command.
+LAUNCHER = '''\
+#!/bin/sh
+# Runs the proved program, and passes it the terminal's width if it writes to a terminal.
+if [ -z "${COLUMNS:-}" ] && [ -t 1 ] && { size="$(stty size <&3 2> /dev/null)"; } 3>&1; then
+    COLUMNS="${size#* }"
+    export COLUMNS
+fi
+self="$(readlink -f -- "$0")"
+exec "${self%/bin/*}/lib/ruled/ruled" "$@"
+'''
 
 
 def crate_lines(text):
@@ -109,6 +141,129 @@ def blocks_of(page):
             fence = fence._replace(text=f"{fence.text}{line}\n")
     if fence:
         yield fence
+
+
+@dataclasses.dataclass(frozen=True)
+class Option:
+    """An option: its letter and its name, the name of its value, the values that it takes, and what it does."""
+
+    letter: str | None
+    name: str
+    value: str | None
+    may_lack_value: bool
+    values: tuple[str, ...]
+    text: str
+
+    def spelling(self):
+        """How it is written, with its value: --stream[=ROWS]."""
+        if self.value is None:
+            return f"--{self.name}"
+        return f"--{self.name}[={self.value}]" if self.may_lack_value else f"--{self.name} {self.value}"
+
+
+def option_of(row):
+    """The option of a line of the help, where it is one."""
+    found = ROW.fullmatch(row)
+    if not found:
+        return None
+    letter, name, lacks, value, text = found.groups()
+    listed = VALUES.search(text)
+    values = tuple(listed[1].split(", ")) if listed else ()
+    return Option(letter, name, value, lacks is not None, values, VALUES.sub("", text))
+
+
+def options_in(text):
+    """The options of a help text."""
+    return [option for option in map(option_of, text.splitlines()) if option]
+
+
+def said_by(program, word):
+    """What a program writes where it is run with a word alone."""
+    return subprocess.run([program, word], check=True, capture_output=True, text=True).stdout
+
+
+def options_of(program):
+    """The options of a program."""
+    return options_in(said_by(program, "--help"))
+
+
+def version_of(program):
+    """The version that a program reports, without its name and the logic that it is proved with."""
+    return said_by(program, "--version").split()[1]
+
+
+def write(file, data, mode=0o644):
+    """Writes a file, and the folders above it."""
+    file.parent.mkdir(parents=True, exist_ok=True)
+    file.write_bytes(data)
+    file.chmod(mode)
+
+
+def written_by(tool, *words):
+    """What a tool beside this module writes."""
+    return subprocess.run([HERE / tool, *words], check=True, capture_output=True).stdout
+
+
+def lay_out(program, folder):
+    """Puts the stripped program, its launcher, its page and its completions below a folder; returns the files."""
+    write(folder / PROGRAM, program.read_bytes(), 0o755)
+    subprocess.run(["strip", "--remove-section=.comment", folder / PROGRAM], check=True)
+    write(folder / COMMAND, LAUNCHER.encode(), 0o755)
+    write(folder / PAGE, gzip.compress(written_by("help-pages", "man", program), 9, mtime=0))
+    for shell, name in COMPLETIONS.items():
+        write(folder / name, written_by("help-pages", shell, program))
+    return [folder / name for name in FILES]
+
+
+def children_seconds():
+    """The seconds of processor that ended processes of this one have taken."""
+    used = resource.getrusage(resource.RUSAGE_CHILDREN)
+    return used.ru_utime + used.ru_stime
+
+
+def hex_seconds(folder):
+    """Proves the kit's crate `hex` in a folder, under another name, as its own is taken; returns its seconds."""
+    kit = pathlib.Path(subprocess.check_output(["rt", "doc"], text=True).strip()).parent
+    crate = folder / "hex" / "crates" / "hex_again"
+    shutil.copytree(kit / "rattle" / "hex", crate, ignore=shutil.ignore_patterns("uses", "BUILD.bazel"))
+    for file in [*crate.rglob("*.rt"), *crate.rglob("*.antt")]:
+        file.write_text(file.read_text().replace("Rattle.hex.", "Rattle.hex_again."))
+    (folder / "hex" / "crates.txt").write_text("hex_again:\n")
+    subprocess.run(["git", "init", "-q", folder / "hex"], check=True)
+    before = children_seconds()
+    proved = subprocess.run(["rt", "check", "--jobs", "1"], cwd=crate, capture_output=True, text=True)
+    if proved.returncode:
+        sys.exit(f"hex isn't proved\n{proved.stdout[-1000:]}{proved.stderr[-1000:]}")
+    return children_seconds() - before
+
+
+def measured():
+    """The seconds of each crate in the last measured run, and those of hex in that run."""
+    text = (HERE / "prices").read_text()
+    return {name: int(seconds) for seconds, name in CRATE.findall(text)}, float(HEX.search(text)[1])
+
+
+def seconds_for(names):
+    """The seconds of processor of proofs of these crates, on the machine of the measured run."""
+    seconds, _ = measured()
+    return sum(seconds.get(name, 150) for name in names)
+
+
+def gigabytes_for(names):
+    """About how many gigabytes the proofs of these crates keep in their folders out/: 2.3 MB a second."""
+    return max(1, round(seconds_for(names) * 2.3 / 1000))
+
+
+def minutes_for(names):
+    """About how many minutes proofs of these crates take on this machine, one after another.
+
+    A crate's proof keeps some two processors busy, however many there are.
+    """
+    _, hex_there = measured()
+    with tempfile.TemporaryDirectory() as folder:
+        speed = hex_seconds(pathlib.Path(folder)) / hex_there
+    processors = min(2, len(os.sched_getaffinity(0)))
+    return round(seconds_for(names) * speed / processors / 60)
 
 
 if __name__ == "__main__":
