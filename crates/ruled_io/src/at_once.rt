@@ -30,6 +30,7 @@ use ruled_row::TextRow;
 use ruled_table::{Blocks, Layout, Options, TableRows, TextColors, chosen_rows, padded_rows};
 use std::alloc::Global;
 use std::io::{Read, Write};
+use std::mem::forget;
 
 // The rows of all inputs: of the first one as many as are needed, and all of those below them. Nothing else is kept of
 // rows of separated values.
@@ -200,7 +201,10 @@ fn show_measured<W: Write + Drop>(
         return show_blocks(alloc, options, &rows, out).and(Ok(None));
     }
     let wide = layout.excess(options.bounds.width);
-    show_table(alloc, options, &layout, &rows, out).and(Ok(wide))
+    let shown = show_table(alloc, options, &layout, &rows, out).and(Ok(wide));
+    // A run ends with its table: to free row after row would take time, and nothing needs their memory.
+    forget(rows);
+    shown
 }
 
 // Shows these rows as one table, or as blocks, and returns how wide the lines of the table are, if that is more than

@@ -70,14 +70,14 @@ returns-clause-draws g c = λ named never.
     let drawn : Draws (whole_table options given) (start_fault (layout_of options given)) old new c.show_table.result =
     subst (λ (rs : List (List Text)). plan_in c.in_ok-layout.layout ≡ layout_of options rs → Draws (whole_table options rs) (start_fault (layout_of options rs)) old new c.show_table.result) rows c.show_table.ensures.draws laid
     in
-    draws-with (all_text options given) (all_fault options given) old new c.show_table.result c.excess-wide.result c.and-2.result c.and-2.ensures
+    draws-with (all_text options given) (all_fault options given) old new c.show_table.result c.excess-wide.result c.and-shown.result c.and-shown.ensures
     (same-draws (whole_table options given) (all_text options given) (start_fault (layout_of options given)) (all_fault options given) old new c.show_table.result text wrong drawn)
 
 pub returns-then-is_in_blocks-clause-told : goal.returns-then-is_in_blocks-clause-told
 returns-then-is_in_blocks-clause-told g c = told-with _ _ c.show_blocks.result no-width c.and.result c.and.ensures c.show_blocks.ensures.told
 
 pub returns-clause-told : goal.returns-clause-told
-returns-clause-told g c = told-with _ _ c.show_table.result c.excess-wide.result c.and-2.result c.and-2.ensures c.show_table.ensures.told
+returns-clause-told g c = told-with _ _ c.show_table.result c.excess-wide.result c.and-shown.result c.and-shown.ensures c.show_table.ensures.told
 
 pub returns-then-is_empty-clause-wide : goal.returns-then-is_empty-clause-wide
 returns-then-is_empty-clause-wide g c =
@@ -101,5 +101,5 @@ returns-clause-wide g c =
     let all : take (2 ^ 64 - 1) given ≡ given = take_all (2 ^ 64 - 1) given (omega (arith, c.args.rows.ok, length-map c.args.rows.items fields_of)) in
     let laid : plan_in c.in_ok-layout.layout ≡ layout_of options given = c.in_ok-layout.ensures.layout ∙ ap (layout_of options) all in
     let flat : shows_blocks options given ≡ false = ap (is_in_blocks options.vertical) (sym laid) ∙ sym c.is_in_blocks.ensures ∙ c.if-is_in_blocks.false in
-    returned-with c.show_table.result c.excess-wide.result (all_excess options given) c.and-2.result c.and-2.ensures
+    returned-with c.show_table.result c.excess-wide.result (all_excess options given) c.and-shown.result c.and-shown.ensures
     (excess-measured options given (plan_in c.in_ok-layout.layout) c.excess-wide.result some flat laid c.excess-wide.ensures)
