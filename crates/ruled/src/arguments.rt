@@ -162,10 +162,24 @@ fn names_of(alloc: Global, list: Option<&str>, sign: char) -> Result<Vec<String>
     }
 }
 
-// The words for the columns that are shown. If some ask for columns, that of the numbers is in front.
+// Whether words ask for columns, but not for that of the numbers of rows.
+fn lacks_numbers(words: &[String]) -> bool {
+    let mut is_asking = false;
+    for word in words {
+        let word = word.as_str();
+        if word == "#" {
+            return false;
+        }
+        is_asking |= !word.starts_with('!');
+    }
+    is_asking
+}
+
+// The words for the columns that are shown. If some ask for columns, that of the numbers is in front, unless one of them
+// asks for it.
 fn columns_of(alloc: Global, found: &ArgMatches) -> Result<Vec<String>, AllocError> {
     let mut words = names_of(alloc, found.get_str("columns"), ',')?;
-    if found.get_flag("number") && words.iter().any(|word| !word.as_str().starts_with('!')) {
+    if found.get_flag("number") && lacks_numbers(&words) {
         words.insert(0, String::from_str(alloc, "#")?)?;
     }
     Ok(words)
