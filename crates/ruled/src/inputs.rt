@@ -63,7 +63,7 @@ fn kind_of(bytes: &[u8]) -> Option<&'static str>
     }
 }
 
-/// What a file is that has no rows of text.
+/// What an input is that has no rows of text.
 #[derive(Clone, Copy)]
 pub(crate) enum Content {
     /// Compressed: this program unpacks it.
@@ -72,8 +72,8 @@ pub(crate) enum Content {
     Other(&'static str),
 }
 
-// What a file is that begins with these bytes, if it has no rows of text.
-fn content_of(bytes: &[u8]) -> Option<Content> {
+/// What an input is that begins with these bytes, if it has no rows of text.
+pub(crate) fn content_of(bytes: &[u8]) -> Option<Content> {
     if let Some(unpacker) = unpacker_of(bytes) {
         return Some(Content::Packed(unpacker));
     }

@@ -8,7 +8,7 @@ mod inputs;
 mod source;
 
 use crate::arguments::{Asked, Wanted, read_arguments};
-use crate::inputs::{Content, Waiting, content_named, log_beside};
+use crate::inputs::{Content, Waiting, content_named, content_of, log_beside};
 use ruled_io::{
     Decoded, Encoding, FurtherInput, Known, Output, Pieces, Quoted, Request, Selection, Source, run,
 };
@@ -68,11 +68,8 @@ fn tell_unread(rt: &HostRuntime, name: &str, error: io::Error) -> io::Result<u8>
     Ok(if is_bad_text { 2 } else { 5 })
 }
 
-// Reports a file of this name that has no rows of text, and returns the exit status, or `None` if it may have some.
-fn tell_content(rt: &HostRuntime, name: &str) -> io::Result<Option<u8>> {
-    let Some(content) = content_named(rt, name)? else {
-        return Ok(None);
-    };
+// Reports an input of this name that has no rows of text, and returns the exit status.
+fn tell_content(rt: &HostRuntime, name: &str, content: Content) -> u8 {
     let name = Quoted(name);
     let _ = match content {
         Content::Packed(unpacker) => writeln!(
@@ -81,7 +78,7 @@ fn tell_content(rt: &HostRuntime, name: &str) -> io::Result<Option<u8>> {
         ),
         Content::Other(kind) => writeln!(rt.stderr(), "ruled: {name}: is {kind}"),
     };
-    Ok(Some(2))
+    2
 }
 
 // Reads all of an input in this encoding.
@@ -107,14 +104,23 @@ fn read_further(
     }
 }
 
-// Reads all further files, and returns the exit status of one that can't be read, or `None`. The only error is out of
-// memory.
+// What a further file is that was read, if it has no rows of text. The only error is out of memory.
+fn content_further(rt: &HostRuntime, further: &FurtherInput) -> io::Result<Option<Content>> {
+    match further.name.as_str() {
+        "-" => Ok(content_of(&further.bytes)),
+        name => content_named(rt, name),
+    }
+}
+
+// Reads all further files, and returns the exit status of one that can't be read or has no rows of text, or `None`. The
+// only error is out of memory.
 fn read_all_further(rt: &HostRuntime, wanted: &mut Wanted) -> io::Result<Option<u8>> {
     for further in &mut wanted.request.further {
-        if let Some(status) = tell_content(rt, further.name.as_str())? {
-            return Ok(Some(status));
+        let read = read_further(rt, wanted.encoding, further);
+        if let Some(content) = content_further(rt, further)? {
+            return Ok(Some(tell_content(rt, further.name.as_str(), content)));
         }
-        if let Err(error) = read_further(rt, wanted.encoding, further) {
+        if let Err(error) = read {
             return Ok(Some(tell_unread(rt, further.name.as_str(), error)?));
         }
     }
@@ -135,13 +141,26 @@ fn show_input<R: Read + Drop>(rt: &HostRuntime, mut wanted: Wanted, input: R) ->
     Ok(status)
 }
 
+// Shows the requested table of standard input, and returns the exit status. The only error is out of memory.
+fn show_stdin(rt: &HostRuntime, wanted: Wanted) -> io::Result<u8> {
+    let mut bytes = [0u8; 10];
+    // If this read fails, the next one reports why.
+    let count = Waiting::new(*rt, rt.stdin()).read(&mut bytes).unwrap_or(0);
+    let first = &bytes[..count];
+    match content_of(first) {
+        Some(content) => Ok(tell_content(rt, "-", content)),
+        None => show_input(rt, wanted, first.chain(rt.stdin())),
+    }
+}
+
 // Shows the requested table, and returns the exit status. The only error is out of memory.
 fn show(rt: &HostRuntime, mut wanted: Wanted) -> io::Result<u8> {
-    if wanted.request.name.as_str() == "-" {
-        return show_input(rt, wanted, rt.stdin());
+    let name = wanted.request.name.as_str();
+    if name == "-" {
+        return show_stdin(rt, wanted);
     }
-    if let Some(status) = tell_content(rt, wanted.request.name.as_str())? {
-        return Ok(status);
+    if let Some(content) = content_named(rt, name)? {
+        return Ok(tell_content(rt, name, content));
     }
     match open_first(rt, &mut wanted.request) {
         Ok(file) => show_input(rt, wanted, file),
