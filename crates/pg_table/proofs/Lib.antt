@@ -17,4 +17,3 @@ pub mod Filled
 pub mod Html
 pub mod Rearranged
 pub mod Setters
-pub mod Coloring

@@ -1,7 +1,7 @@
 -- Straight tables: at natural sizes, in narrow looks, and with titles that change nothing.
 use Rattle.std.proofs.Common.{◌≡◌, ℕ, ◌<◌, ◌==◌, true, false, List, length, Bool, refl, arith, Option, Some, None, IfSome, inl, inr, [], ◌∷◌, map, sym, ◌∙◌, zero, suc, ◌+◌, ◌≤◌, ◌&&◌, nat_lt, if◌then◌else◌, encode_utf8, subst}
 use Rattle.std.specs.Option.{option_or}
-use Rattle.std.specs.Prelude.{String, string_bytes, Result, Ok, Err, IfOk, IsOk, OnErr, OnOk}
+use Rattle.std.specs.Prelude.{nat_le, not, String, string_bytes, Result, Ok, Err, IfOk, IsOk, OnErr, OnOk}
 use Rattle.std.proofs.lemmas.Bool.{cases_Bool, false≢true, and_parts}
 use Rattle.std.proofs.lemmas.Bool.Decides.{nat_tests}
 use Rattle.pg_layout.specs.declared.position.Position.{Position}
@@ -9,7 +9,7 @@ use Rattle.pg_layout.specs.Borders.{ends, horizontal_glyph, vertical_glyph, cros
 use Rattle.pg_layout.specs.Colors.{Color}
 use Rattle.pg_layout.specs.Position.{at}
 use Rattle.pg_layout.specs.Text.{Text, width_of}
-use Rattle.pg_config.specs.Config.{Config, missing_if, get_horizontal, get_vertical, get_intersection, has_horizontal, default_config, get_padding, get_justification}
+use Rattle.pg_config.specs.Config.{Config, missing_if, get_horizontal, get_vertical, get_intersection, has_horizontal, has_vertical, default_config, get_padding, get_justification}
 use Rattle.pg_config.specs.Offsets.{Offsets, no_offsets, lookup_offset}
 use Rattle.pg_picture.specs.Straight.{IsNarrow, HasNarrowFills, HasNarrowMargins, HasNarrowGlyphs, CellsFit, IsStraight}
 use Rattle.pg_picture.specs.Picture.{picture}
@@ -29,9 +29,12 @@ use Rattle.std.proofs.lemmas.Str.{chars-nil}
 use Rattle.pg_layout.specs.declared.alignment.AlignmentHorizontal.{AlignmentHorizontal}
 use Rattle.pg_config.specs.LineGlyphs.{with_line_glyphs}
 use Rattle.pg_table.specs.OwnRows.{own_sizes, spaced_config, titled, titled_at}
-use Rattle.pg_table.specs.Panels.{with_title, with_title_at, with_inner_line}
+use Rattle.pg_table.specs.Panels.{with_title, with_title_at, with_inner_line, along_column, along_row, borders_left_of, borders_round, column_borders, frame_borders}
+use Rattle.pg_table.specs.Panels.{frame_corner, frame_crossing, frame_horizontal, frame_vertical, is_on_column, is_on_row, IsFramed}
+use Rattle.pg_table.specs.declared.table.lines.Frame.{Frame}
 use Rattle.std.specs.List.{list_all, range_with_len}
 use Rattle.unicode_width.proofs.Computing.{unicode_width}
+use Rattle.pg_layout.specs.declared.borders.Border.{Border}
 use Rattle.pg_layout.specs.declared.borders.Borders.{Borders}
 use Rattle.pg_layout.specs.declared.borders.HorizontalLine.{HorizontalLine}
 use Rattle.pg_layout.specs.declared.position.Entity.TheVariants.{Global}
@@ -398,6 +401,85 @@ module _ (config : Config) (look : IsNarrowLook config) where
     margins = look.margins;
   }
 
+-- ---- frames
+
+-- the glyphs of one side of borders
+side_narrow : (a b c : Option ℕ) → list_all is_line_glyph_if (a ∷ b ∷ c ∷ []) ≡ true → IfSome a IsNarrow × IfSome b IsNarrow × IfSome c IsNarrow
+side_narrow a b c h = (three a b c 0 2 h, three a b c 1 2 h, three a b c 2 2 h)
+
+module _ (config : Config) (look : IsNarrowLook config) (f : Frame) (h : are_line_glyphs f.glyphs ≡ true) where
+  abbrev b : Borders ℕ
+  b = f.glyphs
+
+  halves : (list_all is_line_glyph_if (b.top ∷ b.horizontal ∷ b.bottom ∷ []) && list_all is_line_glyph_if (b.left ∷ b.vertical ∷ b.right ∷ []) ≡ true) × (list_all is_line_glyph_if (b.top_left ∷ b.top_intersection ∷ b.top_right ∷ []) && (list_all is_line_glyph_if (b.left_intersection ∷ b.intersection ∷ b.right_intersection ∷ []) && list_all is_line_glyph_if (b.bottom_left ∷ b.bottom_intersection ∷ b.bottom_right ∷ [])) ≡ true)
+  halves = and_parts _ _ h
+
+  horizontal-narrow : (p : Position) → IfSome (frame_horizontal f p) IsNarrow
+  horizontal-narrow p =
+      let lines = and_parts (list_all is_line_glyph_if (b.top ∷ b.horizontal ∷ b.bottom ∷ [])) (list_all is_line_glyph_if (b.left ∷ b.vertical ∷ b.right ∷ [])) halves.0 in
+      let side = side_narrow b.top b.horizontal b.bottom lines.0 in
+      if_narrow (nat_le f.first.col p.col && nat_lt p.col f.last.col) (if p.row == f.first.row then b.top else if p.row == f.last.row then b.bottom else None) None
+      (if_narrow (p.row == f.first.row) b.top (if p.row == f.last.row then b.bottom else None) side.0 (if_narrow (p.row == f.last.row) b.bottom None side.2 tt)) tt
+
+  vertical-narrow : (p : Position) → IfSome (frame_vertical f p) IsNarrow
+  vertical-narrow p =
+      let lines = and_parts (list_all is_line_glyph_if (b.top ∷ b.horizontal ∷ b.bottom ∷ [])) (list_all is_line_glyph_if (b.left ∷ b.vertical ∷ b.right ∷ [])) halves.0 in
+      let side = side_narrow b.left b.vertical b.right lines.1 in
+      if_narrow (nat_le f.first.row p.row && nat_lt p.row f.last.row) (if p.col == f.first.col then b.left else if p.col == f.last.col then b.right else None) None
+      (if_narrow (p.col == f.first.col) b.left (if p.col == f.last.col then b.right else None) side.0 (if_narrow (p.col == f.last.col) b.right None side.2 tt)) tt
+
+  crossing-narrow : (p : Position) → IfSome (frame_crossing f config p) IsNarrow
+  crossing-narrow p =
+      let tops = and_parts (list_all is_line_glyph_if (b.top_left ∷ b.top_intersection ∷ b.top_right ∷ [])) (list_all is_line_glyph_if (b.left_intersection ∷ b.intersection ∷ b.right_intersection ∷ []) && list_all is_line_glyph_if (b.bottom_left ∷ b.bottom_intersection ∷ b.bottom_right ∷ [])) halves.1 in
+      let others = and_parts (list_all is_line_glyph_if (b.left_intersection ∷ b.intersection ∷ b.right_intersection ∷ [])) (list_all is_line_glyph_if (b.bottom_left ∷ b.bottom_intersection ∷ b.bottom_right ∷ [])) tops.1 in
+      let top = side_narrow b.top_left b.top_intersection b.top_right tops.0 in
+      let middle = side_narrow b.left_intersection b.intersection b.right_intersection others.0 in
+      let bottom = side_narrow b.bottom_left b.bottom_intersection b.bottom_right others.1 in
+      let corner : IfSome (frame_corner f p) IsNarrow =
+      if_narrow (p.row == f.first.row) (if p.col == f.first.col then b.top_left else b.top_right) (if p.col == f.first.col then b.bottom_left else b.bottom_right)
+      (if_narrow (p.col == f.first.col) b.top_left b.top_right top.0 top.2) (if_narrow (p.col == f.first.col) b.bottom_left b.bottom_right bottom.0 bottom.2) in
+      let adds_row : Bool = if p.row == f.first.row then f.adds.top else f.adds.bottom in
+      let row : IfSome (along_row f config p) IsNarrow =
+      if_narrow (nat_lt f.first.col p.col && nat_lt p.col f.last.col) (if p.row == f.first.row then b.top_intersection else b.bottom_intersection) (if adds_row then get_vertical config p f.columns else None)
+      (if_narrow (p.row == f.first.row) b.top_intersection b.bottom_intersection top.1 bottom.1) (if_narrow adds_row (get_vertical config p f.columns) None (verticals config look.lines p f.columns) tt) in
+      let adds_column : Bool = if p.col == f.first.col then f.adds.left else f.adds.right in
+      let column : IfSome (along_column f config p) IsNarrow =
+      if_narrow (nat_lt f.first.row p.row && nat_lt p.row f.last.row) (if p.col == f.first.col then b.left_intersection else b.right_intersection) (if adds_column then get_horizontal config p f.rows else None)
+      (if_narrow (p.col == f.first.col) b.left_intersection b.right_intersection middle.0 middle.2) (if_narrow adds_column (get_horizontal config p f.rows) None (horizontals config look.lines p f.rows) tt) in
+      let on_column : Option ℕ = if has_horizontal config p.row f.rows then along_column f config p else None in
+      let on_row : Option ℕ = if has_vertical config p.col f.columns then along_row f config p else None in
+      if_narrow (not (nat_le p.row f.rows && nat_le p.col f.columns)) None
+      (if is_on_row f p && is_on_column f p then frame_corner f p else if is_on_row f p then on_row else if is_on_column f p then on_column else None) tt
+      (if_narrow (is_on_row f p && is_on_column f p) (frame_corner f p) (if is_on_row f p then on_row else if is_on_column f p then on_column else None) corner
+      (if_narrow (is_on_row f p) on_row (if is_on_column f p then on_column else None) (if_narrow (has_vertical config p.col f.columns) (along_row f config p) None row tt)
+      (if_narrow (is_on_column f p) on_column None (if_narrow (has_horizontal config p.row f.rows) (along_column f config p) None column tt) tt)))
+
+  pub told-frame : (new : Config) → IsFramed f config new → IsNarrowLook new
+  told-frame new framed =
+      subst (λ (k : Config). IsNarrowLook k) (sym framed.others) (record {
+        lines = record {
+          horizontals = look.lines.horizontals;
+          verticals = look.lines.verticals;
+          crossings = look.lines.crossings;
+          set_horizontals = λ p. rw (framed.horizontals p) (first_narrow _ _ (horizontal-narrow p) (look.lines.set_horizontals p));
+          set_verticals = λ p. rw (framed.verticals p) (first_narrow _ _ (vertical-narrow p) (look.lines.set_verticals p));
+          set_crossings = λ p. rw (framed.crossings p) (first_narrow _ _ (crossing-narrow p) (look.lines.set_crossings p));
+          missing = look.lines.missing;
+          has_missing = look.lines.has_missing;
+          horizontal_parts = look.lines.horizontal_parts;
+          vertical_parts = look.lines.vertical_parts;
+        };
+        fills = fills-overrides config look new.overrides;
+        margins = look.margins;
+      })
+
+-- the glyphs of a frame round cells, and of a line left of a column
+pub glyphs-round : (b : Border ℕ) (first last : Position) → are_line_glyphs (frame_borders b) ≡ true → are_line_glyphs (borders_round b first last) ≡ true
+glyphs-round b first last h = elim (cases_Bool (nat_lt first.row last.row && nat_lt first.col last.col)) [ inl y ↦ rw y h | inr n ↦ rw n refl ]
+
+pub glyphs-left_of : (b : Borders ℕ) (c columns : ℕ) → are_line_glyphs (column_borders b) ≡ true → are_line_glyphs (borders_left_of b c columns) ≡ true
+glyphs-left_of b c columns h = elim (cases_Bool (nat_lt 0 c && nat_lt c columns)) [ inl y ↦ rw y h | inr n ↦ rw n refl ]
+
 -- what a setting does where memory isn't refused
 pub where-ok : {V E P : Type 0} (r : Result V E) → IsOk r → OnOk r P → P
 where-ok (Ok value) ok is = is
@@ -457,6 +539,9 @@ looks-are-narrow = record {
   looks = refl;
   lines = refl;
 }
+
+-- the law of narrow looks
+pub ruleset narrow_looks = (looks-are-narrow)
 
 -- settings after which a look stays narrow
 pub ruleset narrow_settings = (told-borders, told-nothing)

@@ -31,6 +31,7 @@ pub fn columns_are_widened_as_needed()
 /// of printable ASCII and the box drawings, and so do the fills of a table with default settings.
 /// With such glyphs alone, the lines of a table at its natural sizes are equally wide (the clause
 /// `even` of [`crate::Table::print`]).
+#[tactic(auto, using(crate::proofs::StraightTables::narrow_looks))]
 pub fn looks_are_narrow()
     ensures { LooksAreNarrow }
 {}

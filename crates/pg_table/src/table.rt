@@ -189,7 +189,7 @@ impl<T: AsStr + Drop, A: Allocator> Table<T, A> {
     /// ```text
     /// let table = table.with_borders(Borders::psql()).with_header_line(HorizontalLine::psql())?;
     /// ```
-    pub fn with_header_line(mut self, line: HorizontalLine<char>) -> Result<Table<T, A>, TableFault>
+    pub fn with_header_line(self, line: HorizontalLine<char>) -> Result<Table<T, A>, TableFault>
     where
         A: Clone,
         ensures ok { IfOk result (λ table. table ≡ headed line self) }
@@ -198,8 +198,7 @@ impl<T: AsStr + Drop, A: Allocator> Table<T, A> {
         ensures narrow { IsNarrowLook self.config → is_of_line_glyphs line ≡ true → IfOk result (λ table. IsNarrowLook table.config) }
         ensures memory { (fault : TableFault) → result ≡ Err fault → fault ≡ TableFault.Memory }
     {
-        let set = self.set_header_line(line);
-        self.if_set(set)
+        self.with_row_line(1, line)
     }
 
     /// The natural widths of the columns and the natural heights of the rows, in terminal columns

@@ -9,6 +9,7 @@ ghost use Rattle.pg_table.specs.Even.{IsNarrowLook};
 
 use crate::fault::TableFault;
 use crate::table::Table;
+use crate::table::lines::line_behind;
 use pg_config::SpannedConfig;
 use pg_layout::{ANSIBuf, Color, ColorsMap, Entity, Position, Sides};
 use std::alloc::{AllocError, Allocator};
@@ -162,7 +163,7 @@ fn one_of(place: usize, count: usize) -> Range<usize>
     ensures start { result.start ≡ place }
     ensures end { result.end ≡ min count (place + 1) }
 {
-    place..count.min(place.saturating_add(1))
+    place..line_behind(place, count)
 }
 
 // Colours the cells of these rows and columns, or some of them if memory is refused.

@@ -2,7 +2,7 @@ use Rattle.std.proofs.Common.{◌==◌, ◌&&◌, ◌+◌, ap, nat_lt, sym, ◌�
 use Rattle.pg_layout.specs.Terminal.{color_texts}
 use Rattle.pg_config.specs.Config.{Config}
 use Rattle.pg_table.specs.Coloring.{is_cell_striped, with_stripe}
-use Rattle.pg_table.proofs.Coloring.{colored-more, rows-more}
+use Rattle.pg_table.proofs.Setters.{colored-more, rows-more}
 use Rattle.pg_table.proofs.Rearranged.{one_run_more}
 use Rattle.pg_table.proofs.table.Table.lay_stripes.Goals as goal
 

@@ -4,8 +4,7 @@ use Rattle.pg_config.specs.Config.{Config}
 use Rattle.pg_layout.specs.Terminal.{color_texts}
 use Rattle.pg_table.specs.Coloring.{AreColored, is_cell_striped, with_stripes}
 use Rattle.pg_table.specs.Even.{IsNarrowLook}
-use Rattle.pg_table.proofs.Coloring.{stripes-narrow}
-use Rattle.pg_table.proofs.Setters.{left, set, weaker}
+use Rattle.pg_table.proofs.Setters.{left, set, stripes-narrow, weaker}
 use Rattle.pg_table.proofs.table.Table.with_stripes.Goals as goal
 
 pub returns-clause-config : goal.returns-clause-config
