@@ -5,7 +5,23 @@ use Rattle.pg_layout.specs.declared.borders.Border.{Border}
 use Rattle.pg_layout.specs.declared.borders.HorizontalLine.{HorizontalLine}
 
 abbrev pub no_borders : {G : Type 0} → Borders G
-no_borders = record { top = None; top_left = None; top_right = None; top_intersection = None; bottom = None; bottom_left = None; bottom_right = None; bottom_intersection = None; horizontal = None; left_intersection = None; right_intersection = None; intersection = None; left = None; right = None; vertical = None }
+no_borders = record {
+  top = None;
+  top_left = None;
+  top_right = None;
+  top_intersection = None;
+  bottom = None;
+  bottom_left = None;
+  bottom_right = None;
+  bottom_intersection = None;
+  horizontal = None;
+  left_intersection = None;
+  right_intersection = None;
+  intersection = None;
+  left = None;
+  right = None;
+  vertical = None;
+}
 
 abbrev pub no_border : {G : Type 0} → Border G
 no_border = record { top = None; bottom = None; left = None; right = None; top_left = None; top_right = None; bottom_left = None; bottom_right = None }

@@ -10,7 +10,8 @@ use Rattle.pg_layout.specs.Keys.{IsOrderOf, by_number, by_place, by_columns}
 
 -- two comparisons, the first one first
 pub two-compared : (less is then_less then_is : Bool)
-    → ordering_then (if less then Less else if is then Equal else Greater) (if then_less then Less else if then_is then Equal else Greater) ≡ (if less || (is && then_less) then Less else if is && then_is then Equal else Greater)
+    → ordering_then (if less then Less else if is then Equal else Greater) (if then_less then Less else if then_is then Equal else Greater)
+    ≡ (if less || (is && then_less) then Less else if is && then_is then Equal else Greater)
 two-compared true is then_less then_is = refl
 two-compared false true then_less then_is = refl
 two-compared false false then_less then_is = refl

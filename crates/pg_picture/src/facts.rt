@@ -132,8 +132,8 @@ pub(crate) fn single_line_width(text: &str, kind: TextKind) -> Option<usize>
     width_if_single(text)
 }
 
-// The same for any text. It is out of line, since most are plain: so the code round it keeps more
-// in registers.
+// The width of any text of one line. It is out of line, since most texts are plain: so the code
+// round it keeps more in registers.
 #[inline(never)]
 fn width_if_single(text: &str) -> Option<usize>
     ensures one { IfSome result (λ _. lines_of text.now ≡ text.now ∷ []) }

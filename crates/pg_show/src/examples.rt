@@ -42,8 +42,10 @@ pub fn a_script_is_answered_by_its_picture()
 ///            +----+
 /// ```
 pub fn other_lines_are_read_and_not_used()
-    ensures compact { let script : List ℕ = codes "size 2 1\nwidths 4\nheights 0 5\nborders ascii\nhalign all right\nhalign row 1 left\nvalign all bottom\npad all 1 0 0 0\npad row 1 0 0 1 1\ntrim all hv\nlines all on\nspan 0 0 2 1\ncell 0 0 a \ncell 1 0 b\\ncde" in
+    ensures compact { let script : List ℕ = codes "size 2 1\nwidths 4\nheights 0 5\nborders ascii\nhalign all right\nhalign row 1 left\nvalign all bottom\n"
+        ++ codes "pad all 1 0 0 0\npad row 1 0 0 1 1\ntrim all hv\nlines all on\nspan 0 0 2 1\ncell 0 0 a \ncell 1 0 b\\ncde" in
         answer_to (codes "compact" ∷ []) script ≡ Ok (codes "+----+\n|  a |\n|----|\n|   b|\n+----+\n") }
-    ensures natural { let script : List ℕ = codes "size 2 1\nwidths 9\nheights 0 5\nborders none\nhalign all right\nhalign row 1 left\nvalign all bottom\npad all 1 0 0 0\npad row 1 0 0 1 1\ntrim all hv\nlines all on\nspan 0 0 2 1\ncell 0 0 a \ncell 1 0 b\\ncde" in
+    ensures natural { let script : List ℕ = codes "size 2 1\nwidths 9\nheights 0 5\nborders none\nhalign all right\nhalign row 1 left\nvalign all bottom\n"
+        ++ codes "pad all 1 0 0 0\npad row 1 0 0 1 1\ntrim all hv\nlines all on\nspan 0 0 2 1\ncell 0 0 a \ncell 1 0 b\\ncde" in
         answer_to (codes "table" ∷ []) script ≡ Ok (codes "+----+\n|  a |\n+----+\n| b  |\n| cde|\n+----+\n") }
 {}

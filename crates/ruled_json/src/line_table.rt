@@ -63,7 +63,8 @@ impl LineTable {
 
     // Appends the header and the held rows.
     fn push_held(&mut self, rows: &mut Vec<TextRow>) -> Result<(), AllocError>
-        ensures kept { (self.new.names ≡ self.old.names) × (self.new.left ≡ self.old.left) × (self.new.number ≡ self.old.number) × (self.new.null ≡ self.old.null) × (self.new.is_flat ≡ self.old.is_flat) }
+        ensures kept { (self.new.names ≡ self.old.names) × (self.new.left ≡ self.old.left) × (self.new.number ≡ self.old.number) × (self.new.null ≡ self.old.null)
+            × (self.new.is_flat ≡ self.old.is_flat) }
         ensures rows { (word : List ℕ) (records : List Json)
             → map (padded (length (columns_in self.old))) (map fields_of self.old.held.items) ≡ map (row_of word (columns_in self.old)) records
             → OnOk result (map fields_of rows.new.items ≡ map fields_of rows.old.items ++ table_in word (columns_in self.old) records) }
@@ -104,7 +105,8 @@ impl LineTable {
         requires numbers { HasNumbers (value_view value.now) }
         ensures fault { Tells (if has_all (columns_in self.now) (value_view value.now) then None else Some (NoColumn (Line number))) result }
         ensures rows { (above : List Json)
-            → OnOk result (AppendsRest (table_in (string_bytes self.now.null) (columns_in self.now) above) (table_in (string_bytes self.now.null) (columns_in self.now) (above ++ value_view value.now ∷ []))
+            → OnOk result (AppendsRest (table_in (string_bytes self.now.null) (columns_in self.now) above)
+            (table_in (string_bytes self.now.null) (columns_in self.now) (above ++ value_view value.now ∷ []))
             (map fields_of rows.old.items) (map fields_of rows.new.items)) }
         ensures sound { OnFault result (map fields_of rows.new.items ≡ map fields_of rows.old.items) }
     {

@@ -70,7 +70,7 @@ pub(crate) fn part_of(ends: &[u32], field: usize) -> Option<(usize, usize)>
     }
 }
 
-// The same, by the ends of a few fields.
+// Where a field begins and ends, if its row keeps few ends.
 fn part_of_few(ends: &[u16], field: usize) -> Option<(usize, usize)>
     ensures { IsPart ends.now field result }
 {

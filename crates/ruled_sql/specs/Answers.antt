@@ -1,5 +1,6 @@
 -- The rows that a query answers of the database that bytes hold, or why it answers none.
-use Rattle.std.specs.Prelude.{◌≡◌, ◌≢◌, ◌⊎◌, ⊤, ◌<◌, ◌≤◌, ℕ, Bool, true, false, List, [], ◌∷◌, length, map, Option, Some, None, unwrap_or, Result, Ok, Err, ◌+◌, ◌*◌, ◌/◌, ◌==◌, max, min, slice_index_or, if◌then◌else◌}
+use Rattle.std.specs.Prelude.{◌≡◌, ◌≢◌, ◌⊎◌, ⊤, ◌<◌, ◌≤◌, ℕ, Bool, true, false, List, [], ◌∷◌, length, map, Option, Some, None, unwrap_or, Result, Ok, Err, ◌+◌, ◌*◌}
+use Rattle.std.specs.Prelude.{◌/◌, ◌==◌, max, min, slice_index_or, if◌then◌else◌}
 use Rattle.csv.specs.Records.{AllText}
 use Rattle.sqlite_value.specs.Order.{Row}
 use Rattle.sqlite_trees.specs.Tree.{Trees}
@@ -99,7 +100,8 @@ abbrev pub IsNoQuery : List ℕ → List ℕ → Database → Error → Type 0
 IsNoQuery table query db error =
     ((fault : CompileError) × (understood db.schema query ≡ Err fault) × (stray_in db.schema table query (missing_by fault) ≡ None) × (error ≡ SqlInputError fault))
     ⊎ ((c : Compiled) × (understood db.schema query ≡ Ok c)
-    × (((¬ (length query ≤ c.tail)) × (error ≡ MultipleStatement)) ⊎ (((0 ≢ length c.names) × (error ≡ InvalidParameterCount 0 (length c.names))) ⊎ ((c.formats ≢ []) × (error ≡ SqliteFailure code.NoClock)))))
+    × (((¬ (length query ≤ c.tail)) × (error ≡ MultipleStatement)) ⊎ (((0 ≢ length c.names) × (error ≡ InvalidParameterCount 0 (length c.names)))
+      ⊎ ((c.formats ≢ []) × (error ≡ SqliteFailure code.NoClock)))))
 
 -- the statement is one of transactions, which returns no rows
 abbrev pub IsOfTransaction : Command → Error → Type 0

@@ -1,5 +1,6 @@
 -- The database that a table of rows fills, and the rows that a query reads from it, or why it reads none.
-use Rattle.std.specs.Prelude.{◌≡◌, ◌⊎◌, ⊤, ℕ, ◌+◌, ◌-◌, ◌==◌, ◌&&◌, ◌||◌, not, nat_le, nat_lt, Bool, true, false, List, [], ◌∷◌, ◌++◌, length, map, take, drop, position, nat_eq, slice_index_or, codes, decimal, chars, Option, Some, None, Ok, Err, if◌then◌else◌}
+use Rattle.std.specs.Prelude.{◌≡◌, ◌⊎◌, ⊤, ℕ, ◌+◌, ◌-◌, ◌==◌, ◌&&◌, ◌||◌, not, nat_le, nat_lt, Bool, true, false, List, [], ◌∷◌, ◌++◌, length, map, take, drop, position}
+use Rattle.std.specs.Prelude.{nat_eq, slice_index_or, codes, decimal, chars, Option, Some, None, Ok, Err, if◌then◌else◌}
 use Rattle.std.specs.Char.{encode_utf8}
 use Rattle.std.specs.Cmp.Lexicographic.{pointwise}
 use Rattle.std.specs.Int.{is_in_range}
@@ -228,13 +229,15 @@ left_by fault = None
 
 -- the query is asked of a database that the table fills
 abbrev pub IsAsked : List ℕ → List (List (List ℕ)) → List ℕ → (Database → Type 0) → Type 0
-IsAsked name table query Lacks = (called : List ℕ) × IsCalled name table query called × (connection : Held MemStore) × IsFilled (steps called table) connection × Lacks (state over_memory connection).now
+IsAsked name table query Lacks = (called : List ℕ) × IsCalled name table query called × (connection : Held MemStore) × IsFilled (steps called table) connection
+  × Lacks (state over_memory connection).now
 
 -- why a query has no answer of a table of rows, unless memory was refused
 abbrev pub LacksQueried : List ℕ → List (List (List ℕ)) → List ℕ → ℕ → SqlFault → Type 0
 LacksQueried name table query most sql.NoRows = table ≡ []
 LacksQueried name table query most (sql.Columns error) = (called : List ℕ) × IsCalled name table query called × IsUnfilled (steps called table) error
-LacksQueried name table query most (sql.NoTable left) = IsAsked name table query (λ db. (fault : QueryFault) × (names_no_table fault ≡ true) × (left ≡ left_by fault) × LacksAnswer name query most db fault)
+LacksQueried name table query most (sql.NoTable left) = IsAsked name table query
+  (λ db. (fault : QueryFault) × (names_no_table fault ≡ true) × (left ≡ left_by fault) × LacksAnswer name query most db fault)
 LacksQueried name table query most (sql.Query fault) = (names_no_table fault ≡ false) × IsAsked name table query (λ db. LacksAnswer name query most db fault)
 LacksQueried name table query most sql.Memory = ⊤
 LacksQueried name table query most fault = ⊥

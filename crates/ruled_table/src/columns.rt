@@ -261,7 +261,8 @@ impl Choice {
     ) -> Result<bool, AllocError>
         requires { spec.HasFirst (fields_of header.now) first.now }
         ensures asked { OnOk result (self.new.asked.items ≡ self.old.asked.items ++ spec.asked_by (fields_of header.now) word.now) }
-        ensures left_out { OnOk result ((column : ℕ) → contains nat_eq self.new.left_out column ≡ (contains nat_eq self.old.left_out column || list_any (λ other. other == column) (spec.left_out_by (fields_of header.now) word.now))) }
+        ensures left_out { OnOk result ((column : ℕ) → contains nat_eq self.new.left_out column
+            ≡ (contains nat_eq self.old.left_out column || list_any (λ other. other == column) (spec.left_out_by (fields_of header.now) word.now))) }
         ensures some { IfOk result (λ some. some ≡ not (length (spec.meant (fields_of header.now) word.now) == 0)) }
     {
         match excluded(header, first, word) {

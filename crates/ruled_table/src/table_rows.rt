@@ -130,7 +130,8 @@ fn fill_lent<'a>(
     cells: &mut [&'a str],
 ) -> bool
     ensures few { result ≡ true → length places.now ≤ length cells.new }
-    ensures cells { result ≡ true → map (λ cell. cell.now) (take (length places.now) cells.new) ≡ spec.row_within options.now.bounds.overflow (spec.widths_in widths.now) (shown_row options.now places.now (fields_of fields.now)) }
+    ensures cells { result ≡ true → map (λ cell. cell.now) (take (length places.now) cells.new)
+        ≡ spec.row_within options.now.bounds.overflow (spec.widths_in widths.now) (shown_row options.now places.now (fields_of fields.now)) }
     ensures single { result ≡ true → row_height (map (λ cell. cell.now) (take (length places.now) cells.new)) ≡ 1 }
 {
     if options.is_markdown || places.is_empty() || places.len() > cells.len() {

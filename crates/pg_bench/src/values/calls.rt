@@ -132,7 +132,8 @@ const CASES: &[Case] = &[
         rows: &[&["a"], &["bb"], &["c"], &["d"]],
         call: Call::Stripes,
         export: Export::Picture,
-        text: "+----+\n| a  |\n+----+\n|\u{1b}[41m \u{1b}[49m\u{1b}[41mbb\u{1b}[49m\u{1b}[41m \u{1b}[49m|\n+----+\n| c  |\n+----+\n|\u{1b}[41m \u{1b}[49m\u{1b}[41md\u{1b}[49m\u{1b}[41m \u{1b}[49m\u{1b}[41m \u{1b}[49m|\n+----+",
+        text: "+----+\n| a  |\n+----+\n|\u{1b}[41m \u{1b}[49m\u{1b}[41mbb\u{1b}[49m\u{1b}[41m \u{1b}[49m|\n+----+\n\
+            | c  |\n+----+\n|\u{1b}[41m \u{1b}[49m\u{1b}[41md\u{1b}[49m\u{1b}[41m \u{1b}[49m\u{1b}[41m \u{1b}[49m|\n+----+",
     },
     Case {
         name: "texts are beside each other",

@@ -31,7 +31,7 @@ pub fn rect_width<A: Allocator, D: Dimension>(
     width_of_columns(config, dimension, pos, config.rect_columns(pos), columns)
 }
 
-/// The same as [`rect_width`], for a rectangle that is known to have `count` columns
+/// What [`rect_width`] returns, if the rectangle has `count` columns
 /// ([`SpannedConfig::rect_size`] finds columns and rows by one search). Its precondition is that of
 /// [`rect_width`]; [`crate::fits::spans_fit`] tests it.
 pub fn width_of_columns<A: Allocator, D: Dimension>(
@@ -73,7 +73,7 @@ pub fn rect_height<A: Allocator, D: Dimension>(
     height_of_rows(config, dimension, pos, config.rect_rows(pos))
 }
 
-/// The same as [`rect_height`], for a rectangle that is known to have `count` rows
+/// What [`rect_height`] returns, if the rectangle has `count` rows
 /// ([`SpannedConfig::rect_size`]). Its precondition is that of [`rect_height`];
 /// [`crate::fits::spans_fit`] tests it.
 pub fn height_of_rows<A: Allocator, D: Dimension>(

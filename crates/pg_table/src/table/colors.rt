@@ -148,7 +148,8 @@ impl<T: AsStr + Drop, A: Allocator + Copy> Table<T, A> {
 
 // The rows and the columns of an entity's cells, of so many of both.
 fn cells_of(entity: Entity, rows: usize, columns: usize) -> (Range<usize>, Range<usize>)
-    ensures { (p : Position) → ((nat_le result.0.start p.row && nat_lt p.row result.0.end) && (nat_le result.1.start p.col && nat_lt p.col result.1.end)) ≡ (holds entity p && is_inside rows columns p) }
+    ensures { (p : Position) → ((nat_le result.0.start p.row && nat_lt p.row result.0.end) && (nat_le result.1.start p.col && nat_lt p.col result.1.end))
+        ≡ (holds entity p && is_inside rows columns p) }
 {
     match entity {
         Entity::Global => (0..rows, 0..columns),
@@ -174,7 +175,8 @@ fn color_rows<A: Allocator + Copy>(
     columns: &Range<usize>,
     color: Color,
 ) -> Result<(), AllocError>
-    ensures { OnOk result (AreColored (λ p. (nat_le rows.now.start p.row && nat_lt p.row rows.now.end) && (nat_le columns.now.start p.col && nat_lt p.col columns.now.end)) (color_texts color) colors.old colors.new) }
+    ensures { OnOk result (AreColored (λ p. (nat_le rows.now.start p.row && nat_lt p.row rows.now.end) && (nat_le columns.now.start p.col && nat_lt p.col columns.now.end))
+        (color_texts color) colors.old colors.new) }
 {
     for row in rows.start..rows.end {
         color_row(alloc, colors, row, columns, color)?;
