@@ -26,6 +26,7 @@ pub use crate::dimension::{ConstantDimension, Dimension, EvenDimension};
 pub use crate::iter_records::{IterRecords, IterRows};
 pub use crate::keys::Key;
 pub use crate::line_cursor::LineCursor;
+pub use crate::looks::Look;
 pub use crate::places::Places;
 pub use crate::position::{ColumnPlace, Entity, Position};
 pub use crate::records::{ExactRecords, PeekableRecords, Records};

@@ -1,7 +1,9 @@
-//! Borders by name, and the lines below a header that belong to them.
+//! Looks of tables: borders, the lines below a header that belong to them, and their names.
 
-ghost use Rattle.std.specs.Prelude.{◌≡◌, ◌∷◌, []};
+ghost use Rattle.std.specs.Prelude.{◌≡◌, ◌∷◌, [], Some, IfSome};
 ghost use Rattle.pg_layout.specs.Looks.{drawn_line, ascii, modern, sharp, rounded, extended, dots, blank, psql, markdown, sharp_line, psql_line, markdown_line};
+ghost use Rattle.pg_layout.specs.Looks.{borders_of, first_named, header_line_of, name_of};
+ghost use Rattle.pg_layout.specs.declared.looks.Look.{Look};
 
 use crate::borders::{Borders, HorizontalLine};
 
@@ -205,5 +207,97 @@ impl HorizontalLine<char> {
         ensures { result ≡ markdown_line }
     {
         HorizontalLine::new(Some('-'), Some('|'), Some('|'), Some('|'))
+    }
+}
+
+/// A look of whole tables by its name.
+#[derive(Clone, Copy)]
+pub enum Look {
+    Sharp,
+    Rounded,
+    Modern,
+    Extended,
+    Ascii,
+    Dots,
+    Psql,
+    Markdown,
+    Blank,
+}
+
+impl Look {
+    /// All looks, in the order in which they are listed.
+    pub const ALL: [Look; 9] = [
+        Look::Sharp,
+        Look::Rounded,
+        Look::Modern,
+        Look::Extended,
+        Look::Ascii,
+        Look::Dots,
+        Look::Psql,
+        Look::Markdown,
+        Look::Blank,
+    ];
+
+    /// Its name.
+    pub fn name(self) -> &'static str
+        ensures { result.now ≡ name_of self }
+    {
+        match self {
+            Look::Sharp => "sharp",
+            Look::Rounded => "rounded",
+            Look::Modern => "modern",
+            Look::Extended => "extended",
+            Look::Ascii => "ascii",
+            Look::Dots => "dots",
+            Look::Psql => "psql",
+            Look::Markdown => "markdown",
+            Look::Blank => "blank",
+        }
+    }
+
+    // The first look of this name, in the order in which they are listed.
+    fn first_named(name: &str) -> Option<Look>
+        ensures first { result ≡ first_named name.now }
+        ensures named { IfSome result (λ look. name_of look ≡ name.now) }
+    {
+        Look::ALL.iter().copied().find(|look| look.name() == name)
+    }
+
+    /// The look of this name, if there is one, as in `Look::by_name("rounded")`.
+    #[tactic(auto, using(crate::specs::Looks::first_of_name))]
+    pub fn by_name(name: &str) -> Option<Look>
+        ensures named { IfSome result (λ look. name_of look ≡ name.now) }
+        ensures every { (look : Look) → name_of look ≡ name.now → result ≡ Some look }
+    {
+        Look::first_named(name)
+    }
+
+    /// Its borders: those of [`Borders`] of this name.
+    pub fn borders(self) -> Borders<char>
+        ensures { result ≡ borders_of self }
+    {
+        match self {
+            Look::Sharp => Borders::sharp(),
+            Look::Rounded => Borders::rounded(),
+            Look::Modern => Borders::modern(),
+            Look::Extended => Borders::extended(),
+            Look::Ascii => Borders::ascii(),
+            Look::Dots => Borders::dots(),
+            Look::Psql => Borders::psql(),
+            Look::Markdown => Borders::markdown(),
+            Look::Blank => Borders::blank(),
+        }
+    }
+
+    /// The line below a header, if it has no lines between rows; `Blank` has none.
+    pub fn header_line(self) -> Option<HorizontalLine<char>>
+        ensures { result ≡ header_line_of self }
+    {
+        match self {
+            Look::Sharp | Look::Rounded => Some(HorizontalLine::sharp()),
+            Look::Psql => Some(HorizontalLine::psql()),
+            Look::Markdown => Some(HorizontalLine::markdown()),
+            Look::Modern | Look::Extended | Look::Ascii | Look::Dots | Look::Blank => None,
+        }
     }
 }

@@ -8,7 +8,7 @@ use Rattle.pg_layout.specs.declared.borders.HorizontalLine.{HorizontalLine}
 use Rattle.pg_layout.specs.declared.sides.Indent.{Indent}
 use Rattle.pg_layout.specs.declared.sides.Sides.{Sides}
 use Rattle.pg_layout.specs.Colors.{Color}
-use Rattle.pg_layout.specs.Looks.{all_looks, all_header_lines}
+use Rattle.pg_layout.specs.Looks.{all_looks, all_header_lines, borders_of}
 use Rattle.pg_layout.specs.Text.{Text, greatest}
 use Rattle.pg_config.specs.Config.{Config}
 use Rattle.pg_config.specs.Settings.{with_setting}
@@ -60,7 +60,7 @@ pub record LooksAreNarrow : Type 0 where
   pub borders : (config : Config) (b : Borders ℕ) → are_line_glyphs b ≡ true → IsNarrowLook config → IsNarrowLook (record config { borders = b })
   pub header : (config : Config) (line : HorizontalLine ℕ) (rows columns : ℕ) → is_of_line_glyphs line ≡ true → IsNarrowLook config → IsNarrowLook (with_header_line line rows columns config)
   pub padding : (config : Config) (sides : Sides Indent) → are_line_fills sides ≡ true → IsNarrowLook config → IsNarrowLook (record config { padding = with_setting Global sides config.padding })
-  pub looks : list_all are_line_glyphs all_looks ≡ true
+  pub looks : list_all (λ look. are_line_glyphs (borders_of look)) all_looks ≡ true
   pub lines : list_all is_of_line_glyphs all_header_lines ≡ true
 
 -- ---- widened columns

@@ -6,9 +6,9 @@ use crate::source::{
 };
 use clap::error::ErrorKind;
 use clap::{Arg, ArgAction, ArgMatches, Command};
-use pg_layout::AlignmentHorizontal;
+use pg_layout::{AlignmentHorizontal, Look};
 use ruled_io::{Encoding, FurtherInput, Kind, MemberRules, OneLine, Request, Rows, Source};
-use ruled_table::{Bounds, Breaking, Look, Options, Overflow, Side, Sort, Vertical};
+use ruled_table::{Bounds, Breaking, Options, Overflow, Side, Sort, Vertical};
 use std::alloc::{AllocError, Global};
 use std::env::VarError;
 use std::io::IsTerminal;

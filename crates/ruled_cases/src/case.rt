@@ -1,11 +1,12 @@
 //! Cases of a file.
 
 use crate::words::{meant, push_bytes, push_input, set_bytes, set_option, source_of, split_times};
+use pg_layout::Look;
 use ruled_io::{
     Decoded, Encoding, Format, FurtherInput, Log, Output, Pieces, Request, RowRules, Rows, Source,
     run,
 };
-use ruled_table::{Bounds, Breaking, Look, Options, Overflow, Vertical};
+use ruled_table::{Bounds, Breaking, Options, Overflow, Vertical};
 use std::alloc::{AllocError, Global};
 use std::io;
 

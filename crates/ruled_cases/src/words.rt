@@ -1,11 +1,11 @@
 //! What the lines of a case say.
 
-use pg_layout::AlignmentHorizontal;
+use pg_layout::{AlignmentHorizontal, Look};
 use ruled_io::{
     Fields, Format, Kind, Known, Log, MemberRules, Query, Request, RowRules, Rows, Selection,
     Source,
 };
-use ruled_table::{Look, Options, Overflow, Side, Sort, Vertical};
+use ruled_table::{Options, Overflow, Side, Sort, Vertical};
 use std::alloc::{AllocError, Global};
 use std::mem;
 

@@ -20,7 +20,7 @@ use Rattle.ruled_table.specs.declared.view.ViewFault.{ViewFault}
 use Rattle.std.proofs.Math.Seq.{drop-nil}
 use Rattle.ruled_table.specs.Arranged.{arranged, chosen_rows, ends_of, last_of, tails}
 use Rattle.ruled_table.specs.Columns.{column_fault, drawn_at, fields_at, texts_at}
-use Rattle.ruled_table.specs.Shown.{heads, limit_of, up_to, line_in, sided_config, first_named, name_of}
+use Rattle.ruled_table.specs.Shown.{heads, limit_of, up_to, line_in, sided_config}
 use Rattle.ruled_table.specs.declared.options.Options.{Options}
 use Rattle.std.proofs.lemmas.Bool.{true≢false, cases_Bool, and_parts}
 use Rattle.pg_layout.specs.Colors.{Color}
@@ -45,8 +45,6 @@ use Rattle.pg_stream.specs.declared.fault.StreamFault.{StreamFault}
 use Rattle.pg_stream.specs.declared.fault.StreamFault.TheVariants as stream
 use Rattle.ruled_table.specs.Layouts.{start_fault, start_of, Plan, with_colors}
 use Rattle.ruled_table.specs.RowLines.{HasPrinted, after_rows}
-use Rattle.ruled_table.specs.declared.look.Look.{Look}
-use Rattle.ruled_table.specs.declared.look.Look.TheVariants.{Sharp, Rounded, Modern, Extended, Ascii, Dots, Psql, Markdown, Blank}
 use Rattle.std.specs.List.{range_with_len}
 use Rattle.std.proofs.lemmas.Bool.Decides.{nat_tests}
 use Rattle.std.proofs.lemmas.List.{get_or-map, length-map, length-take, length-drop}
@@ -305,19 +303,6 @@ line-spans (Some line) rows columns config = elim (cases_Bool (nat_lt 1 rows)) [
 pub plain-config : (options : Options) (rows : List (List Text)) → (first_config options rows).spans ≡ []
 unfolding default_config
 plain-config options rows = line-spans (line_in options) (length rows) (columns_of rows) (sided_config options rows)
-
--- ---- each look is found by its name
-
-pub first_of_name : (look : Look) → first_named (name_of look) ≡ Some look
-first_of_name Sharp = refl
-first_of_name Rounded = refl
-first_of_name Modern = refl
-first_of_name Extended = refl
-first_of_name Ascii = refl
-first_of_name Dots = refl
-first_of_name Psql = refl
-first_of_name Markdown = refl
-first_of_name Blank = refl
 
 -- ---- the table of first rows has a space at each side of its texts
 

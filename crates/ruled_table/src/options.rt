@@ -4,8 +4,7 @@ ghost use Rattle.std.specs.Prelude.{◌≡◌};
 ghost use Rattle.ruled_table.specs.Layouts.{is_always};
 
 use crate::bounds::Bounds;
-use crate::look::Look;
-use pg_layout::AlignmentHorizontal;
+use pg_layout::{AlignmentHorizontal, Look};
 
 /// When rows below row 0 are shown as blocks: each a table of its own with a row for each field, of
 /// its name in row 0 and its text, both left-aligned, and an empty line below it.

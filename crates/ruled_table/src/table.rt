@@ -12,13 +12,12 @@ ghost use Rattle.ruled_table.specs.Shown.{color_in, line_in, look_config, sided_
 use crate::bounds::Bounds;
 use crate::colors::TextColors;
 use crate::lent_rows::LentRows;
-use crate::look::Look;
 use crate::options::Options;
 use crate::paired_rows::PairedRows;
 use crate::sides::set_sides;
 use crate::view::{ViewFault, fault_in};
 use pg_config::SpannedConfig;
-use pg_layout::{Entity, ExactRecords, HorizontalLine, Indent, Records, Sides};
+use pg_layout::{Entity, ExactRecords, HorizontalLine, Indent, Look, Records, Sides};
 use std::alloc::{AllocError, Global};
 
 /// The look of a table, without the line below its header.

@@ -2,7 +2,7 @@
 
 use crate::lines::LineFault;
 use crate::settings::words::{Words, color_of, glyph_of};
-use pg_layout::{ANSIBuf, ANSIStr, Border, Borders, HorizontalLine};
+use pg_layout::{ANSIBuf, ANSIStr, Border, Borders, HorizontalLine, Look};
 use std::alloc::Allocator;
 
 /// What a place may hold: a glyph or a colour, in memory of the type `A` if it takes any.
@@ -142,31 +142,17 @@ pub(crate) fn row_line_at(words: &mut Words<'_>) -> HorizontalLine<char> {
     line
 }
 
-/// The borders of a look.
+/// The borders of a look, or none.
 pub(crate) fn borders_named(name: &str) -> Result<Borders<char>, LineFault> {
-    let borders = match name {
-        "ascii" => Borders::ascii(),
-        "modern" => Borders::modern(),
-        "extended" => Borders::extended(),
-        "dots" => Borders::dots(),
-        "blank" => Borders::blank(),
-        "empty" => Borders::empty(),
-        "sharp" => Borders::sharp(),
-        "rounded" => Borders::rounded(),
-        "psql" => Borders::psql(),
-        "markdown" => Borders::markdown(),
-        _ => return Err(LineFault::Unknown),
-    };
-    Ok(borders)
+    match Look::by_name(name) {
+        Some(look) => Ok(look.borders()),
+        None if name == "empty" => Ok(Borders::empty()),
+        None => Err(LineFault::Unknown),
+    }
 }
 
 /// The line below the header of a look that has one.
 pub fn header_line_named(name: &str) -> Result<HorizontalLine<char>, LineFault> {
-    let line = match name {
-        "psql" => HorizontalLine::psql(),
-        "sharp" => HorizontalLine::sharp(),
-        "markdown" => HorizontalLine::markdown(),
-        _ => return Err(LineFault::Unknown),
-    };
-    Ok(line)
+    let look = Look::by_name(name).ok_or(LineFault::Unknown)?;
+    look.header_line().ok_or(LineFault::Unknown)
 }
