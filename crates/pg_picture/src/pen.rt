@@ -1,11 +1,11 @@
 //! The pieces of lines that all printers draw: a line's ends, verticals, crossings and horizontals.
 
-ghost use Rattle.std.specs.Prelude.{◌≡◌, ◌&&◌, ◌==◌, ⊤, false, length, replicate, None, IfOk, option_map};
+ghost use Rattle.std.specs.Prelude.{◌≡◌, ◌&&◌, ◌==◌, ⊤, false, length, replicate, None, IfOk};
 ghost use Rattle.pg_config.specs.Config.{get_alignment_horizontal, has_equal_row_lines, has_horizontal, get_horizontal, get_vertical, get_vertical_color};
 ghost use Rattle.pg_layout.specs.Colors.{lent_color};
 ghost use Rattle.pg_layout.specs.declared.position.Position.{Position};
 ghost use Rattle.pg_picture.specs.Appending.{Appends};
-ghost use Rattle.pg_picture.specs.Pieces.{continued, written};
+ghost use Rattle.pg_picture.specs.Pieces.{continued, glyph_piece, written};
 ghost use Rattle.pg_picture.specs.Inside.{items_after, last_color, lines_before, line_start, line_end};
 ghost use Rattle.pg_picture.specs.Grids.{no_table, sheet_table};
 ghost use Rattle.pg_picture.specs.Table.{Table, vertical, crossing_at, border_items, margin_line, side_margin_at};
@@ -218,10 +218,7 @@ where
         let sheet = self.sheet;
         match sheet.verticals {
             VerticalKind::Absent => Ok(()),
-            VerticalKind::Whole => {
-                let (glyph, color) = self.glyph_of(pos);
-                push_vertical(buf, glyph, color)
-            }
+            VerticalKind::Whole => self.push_whole_vertical(buf, pos),
             VerticalKind::ByLine => {
                 let height = sheet.dimension.get_height(pos.row);
                 push_vertical_at(buf, sheet.config, sheet.columns, height, pos, line)
@@ -229,21 +226,26 @@ where
         }
     }
 
-    // The glyph of a vertical and its colour. Between two columns they aren't looked up if all have
-    // one.
+    // Between two columns nothing is looked up if all verticals there have one glyph.
     #[inline(always)]
-    fn glyph_of(self, pos: Position) -> (Option<char>, Option<&'s ANSIBuf<B>>)
-        ensures glyph { result.0 ≡ get_vertical self.entry.sheet.now.config.now pos self.entry.sheet.now.columns }
-        ensures color { option_map (λ x. x.now) result.1 ≡ get_vertical_color self.entry.sheet.now.config.now pos self.entry.sheet.now.columns }
+    fn push_whole_vertical<A: Allocator>(
+        self,
+        buf: &mut String<A>,
+        pos: Position,
+    ) -> Result<(), AllocError>
+        ensures { Appends buf.old buf.new result (written (glyph_piece
+            (get_vertical self.entry.sheet.now.config.now pos self.entry.sheet.now.columns)
+            (get_vertical_color self.entry.sheet.now.config.now pos self.entry.sheet.now.columns))) }
     {
         let (config, columns) = (self.sheet.config, self.sheet.columns);
-        if 0 < pos.col && pos.col < columns {
-            if let Some(glyph) = self.sheet.inner {
-                return (Some(glyph), None);
+        if let Some(glyph) = self.sheet.inner {
+            if 0 < pos.col && pos.col < columns {
+                let none: Option<&'s ANSIBuf<B>> = None;
+                return push_vertical(buf, Some(glyph), none);
             }
         }
         let glyph = config.get_vertical(pos, columns);
-        (glyph, config.get_vertical_color(pos, columns))
+        push_vertical(buf, glyph, config.get_vertical_color(pos, columns))
     }
 
     /// Appends the crossing at a place of a separator of a table of so many rows.

@@ -1,6 +1,6 @@
-use Rattle.std.proofs.Common.{sym, ap, ap₂, ◌∙◌}
+use Rattle.std.proofs.Common.{sym, ap, ◌∙◌}
 use Rattle.pg_config.proofs.EqualLines.{no_verticals}
-use Rattle.pg_picture.specs.Pieces.{written, glyph_piece}
+use Rattle.pg_picture.specs.Pieces.{written}
 use Rattle.pg_picture.proofs.Appending.{Appends-text, Gained-none, Gained-all}
 use Rattle.pg_picture.proofs.Separators.{vertical_at-none, vertical_at-border, no_column_lines, no_offset_chars}
 use Rattle.pg_picture.proofs.pen.Pen.push_vertical.Goals as goal
@@ -20,4 +20,4 @@ returns-in-Whole g c =
     let none = no_offset_chars sheet.config.now (sym sheet.is_lined ∙ c.in-Whole.is) in
     let height = g.D.Dimension.height sheet.dimension.now c.args.pos.row in
     let border = vertical_at-border sheet.config.now sheet.columns height c.args.pos c.args.line none in
-    rw (← c.args.self.is) (Appends-text (ap₂ (λ glyph color. written (glyph_piece glyph color)) c.glyph_of-glyph.ensures.glyph c.glyph_of-glyph.ensures.color ∙ sym (ap written border)) c.push_vertical.ensures)
+    rw (← c.args.self.is) (Appends-text (sym (ap written border)) c.push_whole_vertical.ensures)
