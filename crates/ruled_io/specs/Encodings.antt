@@ -107,7 +107,7 @@ behind front decoding = record { text = front ++ decoding.text; is_cut = decodin
 -- bytes spell it, are a part of it, or spell none, whatever follows them
 abbrev pub ShowsFirst : Scheme → List ℕ → First → Type 0
 ShowsFirst scheme bytes (Char c count) = (0 < count) × (count ≤ length bytes) × ((more : List ℕ) → decoding_by scheme (bytes ++ more)
-  ≡ behind (encode_utf8 c) (decoding_by scheme (drop count bytes ++ more)))
+    ≡ behind (encode_utf8 c) (decoding_by scheme (drop count bytes ++ more)))
 ShowsFirst scheme bytes Part = (length bytes < 4) × (decoding_by scheme bytes ≡ record { text = []; is_cut = nat_lt 0 (length bytes) })
 ShowsFirst scheme bytes Nothing = (more : List ℕ) → decoding_by scheme (bytes ++ more) ≡ record { text = []; is_cut = true }
 

@@ -61,4 +61,4 @@ abbrev pub BothWaysFindOneFault : Type 0
 BothWaysFindOneFault = (request : Request) (count : ℕ) (bytes : List ℕ) → AllAreFirst request count bytes → IsStreamable request count bytes
     → (streamed_wrong request count bytes ≡ input_fault None (members_of request.source) (format_told request.source) bytes)
     × (streamed_wrong request count bytes ≡ None → streamed_fault request count bytes
-      ≡ option_map of_view (table_fault request.view (rows_in None (members_of request.source) (format_told request.source) bytes)))
+    ≡ option_map of_view (table_fault request.view (rows_in None (members_of request.source) (format_told request.source) bytes)))

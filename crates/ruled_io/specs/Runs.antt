@@ -65,7 +65,7 @@ LacksInput limit source bytes Write = ⊥
 abbrev pub AreJoined : Request → List ℕ → List (List Text) → Type 0
 AreJoined request bytes rows =
     (first : List (List Text)) × AreRows (rows_needed request) request.source bytes first × (further_fault request.view request.further.items first ≡ None)
-      × (rows ≡ joined request.view request.further.items first)
+    × (rows ≡ joined request.view request.further.items first)
 
 -- why there are none: those of the first one lack, or else a further one adds none
 abbrev pub LacksJoined : Request → List ℕ → InputFault → Type 0

@@ -101,7 +101,7 @@ IsNoQuery table query db error =
     ((fault : CompileError) × (understood db.schema query ≡ Err fault) × (stray_in db.schema table query (missing_by fault) ≡ None) × (error ≡ SqlInputError fault))
     ⊎ ((c : Compiled) × (understood db.schema query ≡ Ok c)
     × (((¬ (length query ≤ c.tail)) × (error ≡ MultipleStatement)) ⊎ (((0 ≢ length c.names) × (error ≡ InvalidParameterCount 0 (length c.names)))
-      ⊎ ((c.formats ≢ []) × (error ≡ SqliteFailure code.NoClock)))))
+    ⊎ ((c.formats ≢ []) × (error ≡ SqliteFailure code.NoClock)))))
 
 -- the statement is one of transactions, which returns no rows
 abbrev pub IsOfTransaction : Command → Error → Type 0

@@ -230,14 +230,14 @@ left_by fault = None
 -- the query is asked of a database that the table fills
 abbrev pub IsAsked : List ℕ → List (List (List ℕ)) → List ℕ → (Database → Type 0) → Type 0
 IsAsked name table query Lacks = (called : List ℕ) × IsCalled name table query called × (connection : Held MemStore) × IsFilled (steps called table) connection
-  × Lacks (state over_memory connection).now
+    × Lacks (state over_memory connection).now
 
 -- why a query has no answer of a table of rows, unless memory was refused
 abbrev pub LacksQueried : List ℕ → List (List (List ℕ)) → List ℕ → ℕ → SqlFault → Type 0
 LacksQueried name table query most sql.NoRows = table ≡ []
 LacksQueried name table query most (sql.Columns error) = (called : List ℕ) × IsCalled name table query called × IsUnfilled (steps called table) error
 LacksQueried name table query most (sql.NoTable left) = IsAsked name table query
-  (λ db. (fault : QueryFault) × (names_no_table fault ≡ true) × (left ≡ left_by fault) × LacksAnswer name query most db fault)
+    (λ db. (fault : QueryFault) × (names_no_table fault ≡ true) × (left ≡ left_by fault) × LacksAnswer name query most db fault)
 LacksQueried name table query most (sql.Query fault) = (names_no_table fault ≡ false) × IsAsked name table query (λ db. LacksAnswer name query most db fault)
 LacksQueried name table query most sql.Memory = ⊤
 LacksQueried name table query most fault = ⊥
