@@ -2,12 +2,13 @@
 
 use crate::choices::{CHOICES, COLORED, Choice, QUOTES, RAGGED, SIDES, Takes, WHEN};
 use crate::source::{
-    files_in, first_name, is_padded, selected, source_asked, unstreamed, with_members,
+    files_in, first_name, is_padded, second_of_name, selected, source_asked, tables_in, unstreamed,
+    with_members,
 };
 use clap::error::ErrorKind;
 use clap::{Arg, ArgAction, ArgMatches, Command};
 use pg_layout::{AlignmentHorizontal, Look};
-use ruled_io::{Encoding, FurtherInput, Kind, MemberRules, OneLine, Request, Rows, Source};
+use ruled_io::{Encoding, FurtherInput, Kind, MemberRules, OneLine, Quoted, Request, Rows, Source};
 use ruled_table::{Bounds, Breaking, Options, Overflow, Side, Sort, Vertical};
 use std::alloc::{AllocError, Global};
 use std::env::VarError;
@@ -335,7 +336,7 @@ fn members_asked(alloc: Global, found: &ArgMatches) -> Result<MemberRules, Alloc
     })
 }
 
-// The files behind the first one, of which nothing is read yet, or why their rows can't be below its own.
+// The files behind the first one, of which nothing is read yet, or why they can't be with it.
 fn further_files(
     alloc: Global,
     found: &ArgMatches,
@@ -367,7 +368,11 @@ fn table_of(
     let encoding = found.get_str("encoding").and_then(Encoding::by_name);
     let mut view = view_of(alloc, found, look, screen)?;
     let members = members_asked(alloc, found)?;
-    let source = selected(alloc, found, source, members, &mut view)?;
+    let (mut further, mut tables) = (further, Vec::new(alloc));
+    if found.get_str("query").is_some() {
+        tables = tables_in(alloc, mem::replace(&mut further, Vec::new(alloc)))?;
+    }
+    let source = selected(alloc, found, source, tables, members, &mut view)?;
     Ok(Wanted {
         encoding,
         request: Request {
@@ -466,6 +471,11 @@ fn refuse(rt: &HostRuntime, told: &str) -> io::Result<Asked> {
 
 // What the arguments ask for that clap has read.
 fn asked_of(rt: &HostRuntime, found: &ArgMatches) -> io::Result<Asked> {
+    if let Some(file) = second_of_name(found) {
+        let file = Quoted(file);
+        eprintln!(rt; "ruled: {file}: its table has the name of an earlier one")?;
+        return Ok(Asked::Told(2));
+    }
     let screen = screen_of(rt)?;
     let further = match further_files(rt.alloc(), found)? {
         Ok(further) => further,

@@ -72,7 +72,7 @@ pub(crate) const CHOICES: [Choice; 39] = [
         name: "file",
         value: "FILE",
         takes: Takes::Files,
-        help: "Files to print as one table, all with the same header; standard input if there is none, or for -",
+        help: "Files to print as one table, all with the same header, or to query; standard input if there is none, or for -",
         ..FLAG
     },
     Choice {
@@ -95,7 +95,7 @@ pub(crate) const CHOICES: [Choice; 39] = [
         short: Some('q'),
         value: "SQL",
         takes: Takes::Text,
-        help: "Print the result of this SQL query of a database, or of the rows of any other file, which are the table input",
+        help: "Print the result of this SQL query of a database, or of other files; each is a table of its name, the first also input",
         ..FLAG
     },
     Choice {

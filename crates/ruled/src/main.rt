@@ -10,7 +10,7 @@ mod source;
 use crate::arguments::{Asked, Wanted, read_arguments};
 use crate::inputs::{Content, Waiting, content_named, content_of, log_beside};
 use ruled_io::{
-    Decoded, Encoding, FurtherInput, Known, Output, Pieces, Quoted, Request, Selection, Source, run,
+    Decoded, Encoding, Known, Output, Pieces, Query, Quoted, Request, Selection, Source, run,
 };
 use std::fs::File;
 use std::io::{BufWriter, ErrorKind, Read, Write};
@@ -92,36 +92,77 @@ fn read_all<R: Read + Drop>(
     Ok(())
 }
 
-// Reads all of a further file in this encoding.
+// Reads all of the further file of this name in this encoding.
 fn read_further(
     rt: &HostRuntime,
     encoding: Option<Encoding>,
-    further: &mut FurtherInput,
+    name: &str,
+    bytes: &mut Vec<u8>,
 ) -> io::Result<()> {
-    match further.name.as_str() {
-        "-" => read_all(rt, encoding, rt.stdin(), &mut further.bytes),
-        name => read_all(rt, encoding, open(rt, name)?, &mut further.bytes),
+    match name {
+        "-" => read_all(rt, encoding, rt.stdin(), bytes),
+        name => read_all(rt, encoding, open(rt, name)?, bytes),
     }
 }
 
-// What a further file is that was read, if it has no rows of text. The only error is out of memory.
-fn content_further(rt: &HostRuntime, further: &FurtherInput) -> io::Result<Option<Content>> {
-    match further.name.as_str() {
-        "-" => Ok(content_of(&further.bytes)),
+// What the further file of this name is, of which these bytes were read, if it has no rows of text. The only error is out
+// of memory.
+fn content_further(rt: &HostRuntime, name: &str, bytes: &[u8]) -> io::Result<Option<Content>> {
+    match name {
+        "-" => Ok(content_of(bytes)),
         name => content_named(rt, name),
     }
 }
 
-// Reads all further files, and returns the exit status of one that can't be read or has no rows of text, or `None`. The
-// only error is out of memory.
-fn read_all_further(rt: &HostRuntime, wanted: &mut Wanted) -> io::Result<Option<u8>> {
-    for further in &mut wanted.request.further {
-        let read = read_further(rt, wanted.encoding, further);
-        if let Some(content) = content_further(rt, further)? {
-            return Ok(Some(tell_content(rt, further.name.as_str(), content)));
+// Reads the further file of this name, and returns the exit status if it can't be read or has no rows of text, or `None`.
+// The only error is out of memory.
+fn try_further(
+    rt: &HostRuntime,
+    encoding: Option<Encoding>,
+    name: &str,
+    bytes: &mut Vec<u8>,
+) -> io::Result<Option<u8>> {
+    let read = read_further(rt, encoding, name, bytes);
+    if let Some(content) = content_further(rt, name, bytes.as_slice())? {
+        return Ok(Some(tell_content(rt, name, content)));
+    }
+    match read {
+        Ok(()) => Ok(None),
+        Err(error) => Ok(Some(tell_unread(rt, name, error)?)),
+    }
+}
+
+// Reads the files of a query's further tables, and returns the exit status of one that can't be read, or `None`. The only
+// error is out of memory.
+fn read_tables(
+    rt: &HostRuntime,
+    encoding: Option<Encoding>,
+    query: &mut Query,
+) -> io::Result<Option<u8>> {
+    for table in &mut query.tables {
+        let status = try_further(rt, encoding, table.input.as_str(), &mut table.bytes)?;
+        if status.is_some() {
+            return Ok(status);
         }
-        if let Err(error) = read {
-            return Ok(Some(tell_unread(rt, further.name.as_str(), error)?));
+    }
+    Ok(None)
+}
+
+// Reads all further files, and returns the exit status of one that can't be read, or `None`. The only error is out of
+// memory.
+fn read_all_further(rt: &HostRuntime, wanted: &mut Wanted) -> io::Result<Option<u8>> {
+    let encoding = wanted.encoding;
+    if let Source::Database {
+        selection: Selection::Query(query),
+        ..
+    } = &mut wanted.request.source
+    {
+        return read_tables(rt, encoding, query);
+    }
+    for further in &mut wanted.request.further {
+        let status = try_further(rt, encoding, further.name.as_str(), &mut further.bytes)?;
+        if status.is_some() {
+            return Ok(status);
         }
     }
     Ok(None)

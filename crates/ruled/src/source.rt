@@ -1,7 +1,10 @@
 //! The source that the arguments name: which file, in which format, and what is read of it.
 
 use clap::ArgMatches;
-use ruled_io::{Fields, Format, Kind, Known, Log, MemberRules, Query, RowRules, Selection, Source};
+use ruled_io::{
+    Fields, Format, FurtherInput, Kind, Known, Log, MemberRules, Query, QueryTable, RowRules,
+    Selection, Source,
+};
 use ruled_table::Options;
 use std::alloc::{AllocError, Global};
 use std::mem;
@@ -193,16 +196,13 @@ fn json(source: Source) -> Result<Source, &'static str> {
     }
 }
 
-// Why rows of several files, of which one is this source, can't be one table.
+// Why rows of several files, of which one is this source, can't be one table, or the tables of a query.
 fn unjoined(found: &ArgMatches, source: &Source) -> Option<&'static str> {
     if files_in(found).len() < 2 {
         return None;
     }
     if found.get_one::<u32>("stream").is_some() {
         return Some("several files can't be streamed");
-    }
-    if found.get_str("query").is_some() {
-        return Some("--query takes one file");
     }
     if matches!(source, Source::Database { .. }) {
         return Some("a database can't be one of several files");
@@ -272,12 +272,59 @@ fn table_named(path: &str) -> &str {
     }
 }
 
-// A query of what is known so of its rows, of JSON at the path of these rules, whose text for null is that for NULL. Names above rows are those of the columns that it reads.
+// Whether a query of these files finds a table of this name, in any case. The first is `input`, too.
+fn is_named(files: &[&str], name: &str) -> bool {
+    for file in files {
+        if table_named(file).eq_ignore_ascii_case(name) {
+            return true;
+        }
+    }
+    !files.is_empty() && name.eq_ignore_ascii_case("input")
+}
+
+/// The file of a query whose table has the name of an earlier one, if there is one.
+pub(crate) fn second_of_name<'m>(found: &'m ArgMatches) -> Option<&'m str> {
+    found.get_str("query")?;
+    let files = files_in(found);
+    for (at, file) in files.iter().enumerate() {
+        if is_named(&files[..at], table_named(file)) {
+            return Some(*file);
+        }
+    }
+    None
+}
+
+/// The tables that a query reads of these files, beside that of the first one. A database has none.
+pub(crate) fn tables_in(
+    alloc: Global,
+    files: Vec<FurtherInput>,
+) -> Result<Vec<QueryTable>, AllocError> {
+    let mut tables = Vec::new(alloc);
+    for file in files {
+        let FurtherInput {
+            name,
+            source,
+            bytes,
+        } = file;
+        if let Some(known) = source.known_rows() {
+            tables.push(QueryTable {
+                name: String::from_str(alloc, table_named(name.as_str()))?,
+                input: name,
+                known,
+                bytes,
+            })?;
+        }
+    }
+    Ok(tables)
+}
+
+// A query of what is known so of its rows, and of further tables, of JSON at the path of these rules, whose text for null is that for NULL. Names above rows are those of the columns that it reads.
 fn query_of(
     alloc: Global,
     found: &ArgMatches,
     text: String,
     known: Option<Known>,
+    tables: Vec<QueryTable>,
     members: MemberRules,
     view: &mut Options,
 ) -> Result<Query, AllocError> {
@@ -295,6 +342,7 @@ fn query_of(
             is_flat,
         },
         table: String::from_str(alloc, table_named(first_name(found)))?,
+        tables,
         names: mem::replace(&mut view.names, Vec::new(alloc)),
         is_padded: mem::replace(&mut view.is_padded, false),
         steps: u64::from(found.get_one::<u32>("limit-steps").unwrap_or(STEPS)),
@@ -317,16 +365,25 @@ pub(crate) fn with_members(source: Source, members: MemberRules) -> Source {
     }
 }
 
-/// The source, with what is asked of it. If it is JSON, its rows are as these rules say.
+/// The source, with what is asked of it, of which a query reads these tables, too. If it is JSON, its rows are as these rules say.
 pub(crate) fn selected(
     alloc: Global,
     found: &ArgMatches,
     source: Source,
+    tables: Vec<QueryTable>,
     members: MemberRules,
     view: &mut Options,
 ) -> Result<Source, AllocError> {
     if let Some(text) = copy_of(alloc, found.get_str("query"))? {
-        let query = query_of(alloc, found, text, source.known_rows(), members, view)?;
+        let query = query_of(
+            alloc,
+            found,
+            text,
+            source.known_rows(),
+            tables,
+            members,
+            view,
+        )?;
         return Ok(database(Selection::Query(query)));
     }
     match copy_of(alloc, found.get_str("table"))? {

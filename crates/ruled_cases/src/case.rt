@@ -1,10 +1,12 @@
 //! Cases of a file.
 
-use crate::words::{meant, push_bytes, push_input, set_bytes, set_option, source_of, split_times};
+use crate::words::{
+    meant, push_bytes, push_input, query_in, set_bytes, set_option, source_of, split_times,
+};
 use pg_layout::Look;
 use ruled_io::{
-    Decoded, Encoding, Format, FurtherInput, Log, Output, Pieces, Request, RowRules, Rows, Source,
-    run,
+    Decoded, Encoding, Format, FurtherInput, Known, Log, Output, Pieces, QueryTable, Request,
+    RowRules, Rows, Source, run,
 };
 use ruled_table::{Bounds, Breaking, Options, Overflow, Vertical};
 use std::alloc::{AllocError, Global};
@@ -146,23 +148,40 @@ impl Case {
         Ok(true)
     }
 
-    // Adds a further input of this name, whose ending is the word for its source.
+    // Adds a further input of this name, whose ending is the word for its source: a table of the query, if there is one.
     fn add_input(&mut self, alloc: Global, name: &str) -> Result<bool, AllocError> {
-        let (_, word) = name.rsplit_once('.').unwrap_or((name, ""));
+        let (table, word) = name.rsplit_once('.').unwrap_or((name, ""));
         let Some(mut source) = source_of(alloc, word) else {
             return Ok(false);
         };
         source.set_rules(self.rules);
+        let (name, bytes) = (meant(alloc, name)?, Vec::new(alloc));
+        if let Some(query) = query_in(&mut self.request.source) {
+            query.tables.push(QueryTable {
+                input: name,
+                name: table.to_string(alloc)?,
+                known: source
+                    .known_rows()
+                    .unwrap_or(Known::Nothing { rules: self.rules }),
+                bytes,
+            })?;
+            return Ok(true);
+        }
         self.request.further.push(FurtherInput {
-            name: meant(alloc, name)?,
+            name,
             source,
-            bytes: Vec::new(alloc),
+            bytes,
         })?;
         Ok(true)
     }
 
     // The bytes that lines are of: those of the last further input, if there is one.
     fn bytes(&mut self) -> &mut Vec<u8> {
+        if let Some(query) = query_in(&mut self.request.source) {
+            if let Some(table) = query.tables.last_mut() {
+                return &mut table.bytes;
+            }
+        }
         match self.request.further.last_mut() {
             Some(further) => &mut further.bytes,
             None => &mut self.input,

@@ -18,8 +18,8 @@
 //!   exit status and the line that is printed; without it the status is 0, and there is no such line.
 //! - `>x` has bytes of the input, each as two hexadecimal digits, with spaces between some, and `*` and a number behind
 //!   those that are repeated so many times. `>^` has the input of the case above, and `>@` a place and its new bytes.
-//! - `>+` has the name of a further input, which ends with its format, and below it are lines of that input. The first
-//!   one is called `first.csv`.
+//! - `>+` has the name of a further input, which ends with its format, and below it are lines of that input, which is a table
+//!   of the query, if there is one. The first one is called `first.csv`, and its table `shop`.
 //! - `>*` and `=*` have a number and a text that is repeated so many times, with no line feed after it.
 //! - Empty lines and those with `#` are comments.
 //!

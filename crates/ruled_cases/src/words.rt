@@ -72,11 +72,23 @@ fn query_of(alloc: Global, text: String, known: Option<Known>) -> Result<Query, 
         known,
         members: MemberRules::new(alloc),
         table: "shop".to_string(alloc)?,
+        tables: Vec::new(alloc),
         names: Vec::new(alloc),
         is_padded: false,
         steps: 1_000_000,
         null: String::new(alloc),
     })
+}
+
+/// The query of a source, if there is one.
+pub(crate) fn query_in(source: &mut Source) -> Option<&mut Query> {
+    match source {
+        Source::Database {
+            selection: Selection::Query(query),
+            ..
+        } => Some(query),
+        _ => None,
+    }
 }
 
 // Has a query of the rows of a request below its names, which the answer doesn't get.

@@ -1,5 +1,5 @@
 -- What causes a fault that is handed on.
-use Rattle.std.proofs.Common.{◌≡◌, ◌∙◌, ℕ, Bool, true, false, List, [], Option, Some, None, Result, Ok, Err, inl, inr, refl, sym, ap, subst}
+use Rattle.std.proofs.Common.{◌≡◌, ◌∙◌, ◌∷◌, ℕ, suc, Bool, true, false, if◌then◌else◌, List, [], string_bytes, Option, Some, None, Result, Ok, Err, inl, inr, refl, sym, ap, subst}
 use Rattle.std.specs.Prelude.{not, option_map, IfErr, IfOk, IfSome, OnOk}
 use Rattle.std.specs.Io.KnownBytes.{Appends, Keeps}
 use Rattle.std.specs.Result.{IsErrAnd, result_err}
@@ -20,11 +20,15 @@ use Rattle.ruled_database.specs.declared.fault.TableFault.TheVariants as table
 use Rattle.ruled_table.specs.Arranged.{padded_rows}
 use Rattle.ruled_table.specs.View.{table_excess, table_fault, table_text}
 use Rattle.ruled_table.specs.declared.view.ViewFault.{ViewFault}
-use Rattle.ruled_io.specs.Input.{LacksAnswer, LacksAnswerOf, LacksQueried, LacksSelected, LacksStored, LacksTableOf, members_in, table_of, further_fault, format_fault, input_fault, rows_in}
-use Rattle.ruled_io.specs.Faults.{IsOfRead, Tells, but_line_further, but_line_in, fault_of_database, fault_of_json, fault_of_rows, fault_of_sql, is_early, is_memory, is_of_write, is_read}
+use Rattle.ruled_io.specs.Input.{LacksAnswer, LacksAnswerOf, LacksQueried, LacksSelected, LacksStored, LacksTableOf, fault_read, members_in, queried_fault, tables_fault, tables_of, further_fault, format_fault, input_fault, rows_in}
+use Rattle.ruled_sql.specs.Filled as queries
+use Rattle.ruled_io.specs.declared.fault.FurtherFault.TheVariants as further
+use Rattle.ruled_io.specs.declared.request.QueryTable.{QueryTable}
+use Rattle.std.specs.Option.{option_or}
+use Rattle.ruled_io.specs.Faults.{IsOfRead, Tells, but_line_in, fault_of_database, fault_of_json, fault_of_rows, fault_of_sql, is_early, is_memory, is_of_write, is_read, of_further}
 use Rattle.ruled_io.specs.Formats.{content_of, format_in}
 use Rattle.ruled_io.specs.Output.{failure_in, fault_written, write_part, Begins}
-use Rattle.ruled_io.specs.Requests.{format_told, hides_rows, holds_database, inner_place, known_in, log_of, members_of, rows_needed, selection_of}
+use Rattle.ruled_io.specs.Requests.{format_told, hides_rows, holds_database, inner_place, known_in, log_of, members_of, rows_needed, sees_database, selection_of}
 use Rattle.ruled_io.specs.Runs.{AreAsked, AreJoined, AreRows, AreRowsAs, CausedAtOnce, LacksInput, LacksInputs, LacksJoined, LacksRows, LacksRowsAs, RemarksAll, ShowsAll, remarks_on}
 use Rattle.ruled_io.specs.Steps.{Draws}
 use Rattle.ruled_io.specs.declared.fault.InputFault.{InputFault}
@@ -81,8 +85,8 @@ module _ {X : Type 0} (selection : Option Selection) (bytes : List ℕ) where
   of_query found (Ok x) none told = absurd told
   of_query sql.Database (Err fault) none told = subst (LacksSelected selection bytes) (sym told) none
   of_query sql.Damage (Err fault) none told = subst (LacksSelected selection bytes) (sym told) none
-  of_query sql.NoRows (Err fault) none told = subst (LacksSelected selection bytes) (sym told) none
-  of_query (sql.Columns error) (Err fault) none told = subst (LacksSelected selection bytes) (sym told) none
+  of_query (sql.NoRows table) (Err fault) none told = subst (LacksSelected selection bytes) (sym told) none
+  of_query (sql.Columns table error) (Err fault) none told = subst (LacksSelected selection bytes) (sym told) none
   of_query (sql.NoTable left) (Err fault) none told = subst (LacksSelected selection bytes) (sym told) none
   of_query (sql.Query (query.Refused error)) (Err fault) none told = subst (LacksSelected selection bytes) (sym told) none
   of_query (sql.Query (query.Missing what left)) (Err fault) none told = subst (LacksSelected selection bytes) (sym told) none
@@ -120,7 +124,7 @@ is_of_rows (input.Sql fault) = false
 is_of_rows (input.Database fault) = false
 is_of_rows input.Log = false
 is_of_rows (input.Stream fault) = false
-is_of_rows (input.Further number fault) = false
+is_of_rows (input.Further number fault) = true
 is_of_rows (input.Column name) = false
 is_of_rows input.Sort = false
 is_of_rows input.Totals = false
@@ -154,6 +158,44 @@ of-format members JsonLines bytes fault is = mapped fault_of_json of-json _ faul
 of-input : (members : Rules) (known : Known) (bytes : List ℕ) (fault : InputFault) → input_fault None members known bytes ≡ Some fault → is_of_rows fault ≡ true
 of-input members known bytes fault is = of-format members (format_in known bytes) (content_of (format_in known bytes) bytes) fault is
 
+of-further : (number : ℕ) (fault : InputFault) → is_of_rows fault ≡ true → is_of_rows (of_further number fault) ≡ true
+of-further number (input.Rows fault) is = refl
+of-further number (input.Json fault) is = refl
+of-further number (input.Sql fault) is = is
+of-further number (input.Database fault) is = is
+of-further number input.Log is = is
+of-further number (input.Stream fault) is = is
+of-further number (input.Further other fault) is = refl
+of-further number (input.Column name) is = is
+of-further number input.Sort is = is
+of-further number input.Totals is = is
+of-further number input.Memory is = refl
+
+of-mapped : (number : ℕ) (found : Option InputFault) → ((fault : InputFault) → found ≡ Some fault → is_of_rows fault ≡ true) → (fault : InputFault) → option_map (of_further number) found ≡ Some fault → is_of_rows fault ≡ true
+of-mapped number None each fault is = absurd cc
+of-mapped number (Some found) each fault is = let same : of_further number found ≡ fault = cc in subst (λ (it : InputFault). is_of_rows it ≡ true) same (of-further number found (each found refl))
+
+of-read-by : (b : Bool) (number : ℕ) (found : Option InputFault) → ((fault : InputFault) → found ≡ Some fault → is_of_rows fault ≡ true) → (fault : InputFault)
+    → (if b then Some (input.Further number further.Database) else option_map (of_further number) found) ≡ Some fault → is_of_rows fault ≡ true
+of-read-by true number found each fault is = let same : input.Further number further.Database ≡ fault = cc in subst (λ (it : InputFault). is_of_rows it ≡ true) same refl
+of-read-by false number found each fault is = of-mapped number found each fault is
+
+of-either : (first others : Option InputFault) → ((fault : InputFault) → first ≡ Some fault → is_of_rows fault ≡ true) → ((fault : InputFault) → others ≡ Some fault → is_of_rows fault ≡ true)
+    → (fault : InputFault) → option_or first others ≡ Some fault → is_of_rows fault ≡ true
+of-either None others one two fault is = two fault is
+of-either (Some found) others one two fault is = one fault is
+
+of-tables : (query : Query) (number : ℕ) (tables : List QueryTable) (fault : InputFault) → tables_fault query number tables ≡ Some fault → is_of_rows fault ≡ true
+of-tables query number [] fault is = absurd cc
+of-tables query number (table ∷ tables) fault is =
+    of-either (fault_read query number table) (tables_fault query (suc number) tables)
+    (of-read-by (sees_database table.known table.bytes.items) number (input_fault None (members_in query) table.known table.bytes.items) (of-input (members_in query) table.known table.bytes.items))
+    (of-tables query (suc number) tables) fault is
+
+of-queried : (known : Known) (query : Query) (bytes : List ℕ) (fault : InputFault) → queried_fault known query bytes ≡ Some fault → is_of_rows fault ≡ true
+of-queried known query bytes fault is =
+    of-either (input_fault None (members_in query) known bytes) (tables_fault query 0 query.tables.items) (of-input (members_in query) known bytes) (of-tables query 0 query.tables.items) fault is
+
 module _ (query : Query) (known : Known) (bytes : List ℕ) (is : known_in query.known bytes ≡ Some known) where
   abbrev Lacks : InputFault → Type 0
   Lacks fault = LacksSelected (Some (Select query)) bytes fault
@@ -161,29 +203,29 @@ module _ (query : Query) (known : Known) (bytes : List ℕ) (is : known_in query
   table-lacks : (fault : InputFault) → LacksTableOf (Some known) query bytes fault → LacksQueried (Some (Select query)) bytes fault
   table-lacks fault lacks = subst (λ (it : Option Known). LacksTableOf it query bytes fault) (sym is) lacks
 
-  -- the input has none
-  of_table : (fault : InputFault) → (is_memory fault ≡ false → input_fault None (members_in query) known bytes ≡ Some (but_line_in fault)) → Lacks fault
+  -- an input has none
+  of_table : (fault : InputFault) → (is_memory fault ≡ false → queried_fault known query bytes ≡ Some (but_line_in fault)) → Lacks fault
   of_table (input.Rows fault) tells = table-lacks (input.Rows fault) (tells refl)
   of_table (input.Json fault) tells = table-lacks (input.Json fault) (tells refl)
-  of_table (input.Sql fault) tells = absurd (false≢true (of-input (members_in query) known bytes (input.Sql fault) (tells refl)))
-  of_table (input.Database fault) tells = absurd (false≢true (of-input (members_in query) known bytes (input.Database fault) (tells refl)))
-  of_table input.Log tells = absurd (false≢true (of-input (members_in query) known bytes input.Log (tells refl)))
-  of_table (input.Stream fault) tells = absurd (false≢true (of-input (members_in query) known bytes (input.Stream fault) (tells refl)))
-  of_table (input.Further number fault) tells = absurd (false≢true (of-input (members_in query) known bytes (input.Further number (but_line_further fault)) (tells refl)))
-  of_table (input.Column name) tells = absurd (false≢true (of-input (members_in query) known bytes (input.Column name) (tells refl)))
-  of_table input.Sort tells = absurd (false≢true (of-input (members_in query) known bytes input.Sort (tells refl)))
-  of_table input.Totals tells = absurd (false≢true (of-input (members_in query) known bytes input.Totals (tells refl)))
+  of_table (input.Sql fault) tells = absurd (false≢true (of-queried known query bytes (input.Sql fault) (tells refl)))
+  of_table (input.Database fault) tells = absurd (false≢true (of-queried known query bytes (input.Database fault) (tells refl)))
+  of_table input.Log tells = absurd (false≢true (of-queried known query bytes input.Log (tells refl)))
+  of_table (input.Stream fault) tells = absurd (false≢true (of-queried known query bytes (input.Stream fault) (tells refl)))
+  of_table (input.Further number fault) tells = table-lacks (input.Further number fault) (tells refl)
+  of_table (input.Column name) tells = absurd (false≢true (of-queried known query bytes (input.Column name) (tells refl)))
+  of_table input.Sort tells = absurd (false≢true (of-queried known query bytes input.Sort (tells refl)))
+  of_table input.Totals tells = absurd (false≢true (of-queried known query bytes input.Totals (tells refl)))
   of_table input.Memory tells = tt
 
-  -- it has them, and the query has none
-  pub of_table_query : {X : Type 0} (found : SqlFault) (result : Result X InputFault) → input_fault None (members_in query) known bytes ≡ None
-      → (found ≡ sql.NoRows → table_of query (rows_in None (members_in query) known bytes) ≡ [])
+  -- all have them, and the query has none
+  pub of_table_query : {X : Type 0} (found : SqlFault) (result : Result X InputFault) → queried_fault known query bytes ≡ None
+      → queries.LacksQueried (tables_of known query bytes) (string_bytes query.text) query.steps found
       → IsErrAnd result (λ fault. fault ≡ fault_of_sql found) → IfErr result (LacksSelected (Some (Select query)) bytes)
   of_table_query found result sound none told =
       of_query (Some (Select query)) bytes found result (subst (λ (it : Option Known). LacksAnswerOf it query bytes found) (sym is) (sound, none)) told
 
-  -- a fault of its rows is handed on
-  pub of_rows : {X : Type 0} (found : InputFault) (result : Result X InputFault) → (is_memory found ≡ false → input_fault None (members_in query) known bytes ≡ Some (but_line_in found)) → IsErrAnd result (λ fault. fault ≡ found)
+  -- a fault of rows is handed on
+  pub of_rows : {X : Type 0} (found : InputFault) (result : Result X InputFault) → (is_memory found ≡ false → queried_fault known query bytes ≡ Some (but_line_in found)) → IsErrAnd result (λ fault. fault ≡ found)
       → IfErr result (LacksSelected (Some (Select query)) bytes)
   of_rows found (Ok x) tells told = tt
   of_rows found (Err fault) tells told = subst Lacks (sym told) (of_table found tells)
@@ -198,7 +240,7 @@ of_selection source bytes (Err (input.Sql fault)) shown lacks = (shown, lacks)
 of_selection source bytes (Err (input.Database fault)) shown lacks = (shown, lacks)
 of_selection source bytes (Err input.Log) shown lacks = absurd lacks
 of_selection source bytes (Err (input.Stream fault)) shown lacks = absurd lacks
-of_selection source bytes (Err (input.Further number fault)) shown lacks = absurd lacks
+of_selection source bytes (Err (input.Further number fault)) shown lacks = (shown, lacks)
 of_selection source bytes (Err (input.Column name)) shown lacks = absurd lacks
 of_selection source bytes (Err input.Sort) shown lacks = absurd lacks
 of_selection source bytes (Err input.Totals) shown lacks = absurd lacks

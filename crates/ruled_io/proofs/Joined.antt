@@ -8,14 +8,19 @@ use Rattle.std.specs.Str.{bytes_eq}
 use Rattle.std.proofs.lemmas.Bool.{cases_Bool, false≢true, true≢false}
 use Rattle.std.proofs.Math.Seq.{take-suc}
 use Rattle.std.proofs.lemmas.Grind.{flat_map-append}
-use Rattle.std.proofs.lemmas.List.{map-append, nil_from_length, take-append-drop, take_all}
+use Rattle.std.proofs.lemmas.List.{map-append, map_more, nil_from_length, take-append-drop, take_all}
 use Rattle.std.proofs.lemmas.Bool.Decides.{Decides-eqb}
 use Rattle.std.proofs.lemmas.Slice.Eq.{bytes_eq-Decides}
 use Rattle.csv.specs.Records.{field_at}
 use Rattle.pg_layout.specs.Text.{Text}
 use Rattle.ruled_table.specs.declared.options.Options.{Options}
 use Rattle.ruled_io.specs.Faults.{but_line_further, but_line_in, is_memory, of_further}
-use Rattle.ruled_io.specs.Input.{fault_from, fault_held, further_fault, joined, joined_rows, misfit, names_columns, rows_held, rows_of_all}
+use Rattle.ruled_io.specs.Input.{fault_from, fault_held, fault_read, further_fault, further_table, input_fault, joined, joined_rows, members_in, misfit, names_columns, queried_fault, rows_held, rows_of_all, tables_fault}
+use Rattle.ruled_io.specs.declared.formats.Known.{Known}
+use Rattle.ruled_io.specs.declared.request.Query.{Query}
+use Rattle.ruled_io.specs.declared.request.QueryTable.{QueryTable}
+use Rattle.ruled_sql.specs.Filled.{Table, table_of}
+use Rattle.ruled_sql.specs.declared.filled.NamedRows.{NamedRows}
 use Rattle.ruled_io.specs.Requests.{is_ragged}
 use Rattle.ruled_io.specs.Steps.{beneath}
 use Rattle.ruled_io.specs.declared.fault.FurtherFault.{FurtherFault}
@@ -268,3 +273,39 @@ joined-all options inputs first number past = ap (λ (its : List FurtherInput). 
 pub none-left : (options : Options) (inputs : List FurtherInput) (first : List (List Text)) (number : ℕ) → length inputs ≤ number → further_fault options inputs first ≡ fault_from options (rows_of_all inputs first) number (drop number inputs)
     → further_fault options inputs first ≡ None
 none-left options inputs first number past leads = leads ∙ ap (fault_from options (rows_of_all inputs first) number) (nil_from_length (drop number inputs) (omega (arith, past, length-drop number inputs)))
+
+-- ---- tables of a query
+
+module _ (query : Query) (number : ℕ) (table : QueryTable) (within : number < length query.tables.items) (is : table ≡ get_or query.tables.items number table) where
+  abbrev LeadsTo : Type 0
+  LeadsTo = tables_fault query 0 query.tables.items ≡ tables_fault query number (drop number query.tables.items)
+
+  to-here : LeadsTo → tables_fault query 0 query.tables.items ≡ option_or (fault_read query number table) (tables_fault query (suc number) (drop (number + 1) query.tables.items))
+  to-here leads = leads ∙ ap (tables_fault query number) (drop-next query.tables.items number table within is)
+
+  pub read-wrong : (fault : InputFault) → LeadsTo → fault_read query number table ≡ Some fault → tables_fault query 0 query.tables.items ≡ Some fault
+  read-wrong fault leads wrong = to-here leads ∙ rw wrong refl
+
+  pub reads-on : LeadsTo → fault_read query number table ≡ None → tables_fault query 0 query.tables.items ≡ tables_fault query (number + 1) (drop (number + 1) query.tables.items)
+  reads-on leads none =
+      let next : suc number ≡ number + 1 = omega arith in
+      to-here leads ∙ rw none (ap (λ (n : ℕ). tables_fault query n (drop (number + 1) query.tables.items)) next)
+
+  -- one table more
+  pub tables-on : (tables : List NamedRows) (new : NamedRows) (first : Table) → map table_of tables ≡ first ∷ map (further_table query) (take number query.tables.items) → table_of new ≡ further_table query table
+      → map table_of (tables ++ (new ∷ [])) ≡ first ∷ map (further_table query) (take (number + 1) query.tables.items)
+  tables-on tables new first above same =
+      map-append table_of tables (new ∷ []) ∙ ap (λ (some : List Table). some ++ (table_of new ∷ [])) above
+      ∙ ap (λ (one : Table). first ∷ (map (further_table query) (take number query.tables.items) ++ (one ∷ []))) (same ∙ ap (further_table query) is)
+      ∙ ap (λ (some : List Table). first ∷ some) (sym (map_more (further_table query) query.tables.items number table within))
+
+pub all-read : (query : Query) (number : ℕ) → length query.tables.items ≤ number → tables_fault query 0 query.tables.items ≡ tables_fault query number (drop number query.tables.items) → tables_fault query 0 query.tables.items ≡ None
+all-read query number past leads = leads ∙ ap (tables_fault query number) (nil_from_length (drop number query.tables.items) (omega (arith, past, length-drop number query.tables.items)))
+
+-- what is wrong with the first input, or with a further table
+module _ (query : Query) (known : Known) (bytes : List ℕ) where
+  pub by-first : (fault : InputFault) → input_fault None (members_in query) known bytes ≡ Some fault → queried_fault known query bytes ≡ Some fault
+  by-first fault wrong = rw wrong refl
+
+  pub by-further : (found : Option InputFault) → input_fault None (members_in query) known bytes ≡ None → tables_fault query 0 query.tables.items ≡ found → queried_fault known query bytes ≡ found
+  by-further found none wrong = rw (none, wrong) refl

@@ -174,8 +174,8 @@ fault_of_json json_faults.Memory = Memory
 abbrev pub fault_of_sql : SqlFault → InputFault
 fault_of_sql sql.Database = Sql sql.Database
 fault_of_sql sql.Damage = Sql sql.Damage
-fault_of_sql sql.NoRows = Sql sql.NoRows
-fault_of_sql (sql.Columns error) = Sql (sql.Columns error)
+fault_of_sql (sql.NoRows table) = Sql (sql.NoRows table)
+fault_of_sql (sql.Columns table error) = Sql (sql.Columns table error)
 fault_of_sql (sql.NoTable left) = Sql (sql.NoTable left)
 fault_of_sql (sql.Query (query.Refused error)) = Sql (sql.Query (query.Refused error))
 fault_of_sql (sql.Query (query.Missing what left)) = Sql (sql.Query (query.Missing what left))

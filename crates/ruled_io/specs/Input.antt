@@ -19,13 +19,13 @@ use Rattle.std.specs.List.{flat_map}
 use Rattle.std.specs.Option.{option_or}
 use Rattle.std.specs.Str.{bytes_eq}
 use Rattle.ruled_table.specs.declared.options.Options.{Options}
-use Rattle.ruled_io.specs.Requests.{format_told, holds_database, is_ragged, members_of, known_in}
+use Rattle.ruled_io.specs.Requests.{format_told, holds_database, is_ragged, members_of, known_in, sees_database}
 use Rattle.ruled_io.specs.declared.fault.FurtherFault.{FurtherFault}
 use Rattle.ruled_io.specs.declared.fault.FurtherFault.TheVariants.{Header, Length}
 use Rattle.ruled_io.specs.declared.fault.FurtherFault.TheVariants as further
 use Rattle.ruled_io.specs.declared.fault.InputFault.TheVariants.{Further}
 use Rattle.ruled_io.specs.declared.request.FurtherInput.{FurtherInput}
-use Rattle.ruled_sql.specs.Answers.{AreAnswered, HoldsNone}
+use Rattle.ruled_sql.specs.Answers.{AreAnswered, LacksRows}
 use Rattle.ruled_database.specs.Listings.{AreTable, IsListing, LacksListing, LacksTable}
 use Rattle.ruled_database.specs.declared.fault.DatabaseFault.{DatabaseFault}
 use Rattle.ruled_sql.specs.declared.fault.SqlFault.{SqlFault}
@@ -34,7 +34,9 @@ use Rattle.ruled_io.specs.declared.fault.InputFault.TheVariants as input
 use Rattle.ruled_io.specs.declared.request.Selection.{Selection}
 use Rattle.ruled_io.specs.declared.request.Selection.TheVariants.{Query as Select, Table, Tables}
 use Rattle.ruled_io.specs.declared.request.Query.{Query}
+use Rattle.ruled_io.specs.declared.request.QueryTable.{QueryTable}
 use Rattle.ruled_sql.specs.Filled.{AreQueried}
+use Rattle.ruled_sql.specs.Filled as sql_tables
 use Rattle.ruled_table.specs.Arranged.{named, padded}
 
 -- ---- the rows of one input
@@ -135,12 +137,37 @@ table_of query rows = if query.is_padded then padded (named (map string_bytes qu
 abbrev pub members_in : Query → Rules
 members_in query = rules_of query.members
 
+-- the rows of a further table
+abbrev pub rows_read : Query → QueryTable → List (List Text)
+rows_read query table = table_of query (rows_in None (members_in query) table.known table.bytes.items)
+
+abbrev pub further_table : Query → QueryTable → sql_tables.Table
+further_table query table = (string_bytes table.name, rows_read query table)
+
+-- the tables that a query reads, of which the first has the rows of these bytes
+abbrev pub tables_of : Known → Query → List ℕ → List sql_tables.Table
+tables_of known query bytes = (string_bytes query.table, table_of query (rows_in None (members_in query) known bytes)) ∷ map (further_table query) query.tables.items
+
+-- why the further table of this number has none
+abbrev pub fault_read : Query → ℕ → QueryTable → Option InputFault
+fault_read query number table =
+    if sees_database table.known table.bytes.items then Some (Further number further.Database)
+    else option_map (of_further number) (input_fault None (members_in query) table.known table.bytes.items)
+
+-- what is wrong with the first of these tables with which anything is, where they are numbered from here on
+abbrev pub tables_fault : Query → ℕ → List QueryTable → Option InputFault
+tables_fault query number [] = None
+tables_fault query number (table ∷ tables) = option_or (fault_read query number table) (tables_fault query (suc number) tables)
+
+-- why the rows of these bytes, or those of a further table, can't be read
+abbrev pub queried_fault : Known → Query → List ℕ → Option InputFault
+queried_fault known query bytes = option_or (input_fault None (members_in query) known bytes) (tables_fault query 0 query.tables.items)
+
 -- what a query answers of these rows, or of a database
 abbrev pub AreAnswer : Option Known → Query → List ℕ → List (List Text) → Type 0
 AreAnswer None query bytes rows = AreAnswered bytes (string_bytes query.text) query.steps (string_bytes query.null) rows
 AreAnswer (Some known) query bytes rows =
-    (input_fault None (members_in query) known bytes ≡ None)
-    × AreQueried (string_bytes query.table) (table_of query (rows_in None (members_in query) known bytes)) (string_bytes query.text) query.steps (string_bytes query.null) rows
+    (queried_fault known query bytes ≡ None) × AreQueried (tables_of known query bytes) (string_bytes query.text) query.steps (string_bytes query.null) rows
 
 -- what a query answers, the rows of a table, or the list of the tables
 abbrev pub AreSelected : Option Selection → List ℕ → List (List Text) → Type 0
@@ -149,11 +176,10 @@ AreSelected (Some (Select query)) bytes rows = AreAnswer (known_in query.known b
 AreSelected (Some (Table name null_text)) bytes rows = AreTable bytes (string_bytes name) (string_bytes null_text) rows
 AreSelected (Some Tables) bytes rows = IsListing bytes rows
 
--- why a query has no rows, where the input has them
+-- why a query has no rows, where the inputs have them
 abbrev pub LacksAnswerOf : Option Known → Query → List ℕ → SqlFault → Type 0
-LacksAnswerOf None query bytes fault = fault ≡ sql.Database → HoldsNone bytes
-LacksAnswerOf (Some known) query bytes fault =
-    (input_fault None (members_in query) known bytes ≡ None) × (fault ≡ sql.NoRows → table_of query (rows_in None (members_in query) known bytes) ≡ [])
+LacksAnswerOf None query bytes fault = LacksRows bytes (string_bytes query.text) query.steps fault
+LacksAnswerOf (Some known) query bytes fault = (queried_fault known query bytes ≡ None) × sql_tables.LacksQueried (tables_of known query bytes) (string_bytes query.text) query.steps fault
 
 abbrev pub LacksAnswer : Option Selection → List ℕ → SqlFault → Type 0
 LacksAnswer None bytes fault = ⊥
@@ -161,10 +187,10 @@ LacksAnswer (Some (Select query)) bytes fault = LacksAnswerOf (known_in query.kn
 LacksAnswer (Some (Table name null_text)) bytes fault = ⊥
 LacksAnswer (Some Tables) bytes fault = ⊥
 
--- or the input has none
+-- or one of them has none
 abbrev pub LacksTableOf : Option Known → Query → List ℕ → InputFault → Type 0
 LacksTableOf None query bytes fault = ⊥
-LacksTableOf (Some known) query bytes fault = input_fault None (members_in query) known bytes ≡ Some (but_line_in fault)
+LacksTableOf (Some known) query bytes fault = queried_fault known query bytes ≡ Some (but_line_in fault)
 
 abbrev pub LacksQueried : Option Selection → List ℕ → InputFault → Type 0
 LacksQueried None bytes fault = ⊥
@@ -187,7 +213,7 @@ LacksSelected selection bytes (input.Sql fault) = LacksAnswer selection bytes fa
 LacksSelected selection bytes (input.Database fault) = LacksStored selection bytes fault
 LacksSelected selection bytes input.Log = ⊥
 LacksSelected selection bytes (input.Stream fault) = ⊥
-LacksSelected selection bytes (input.Further number fault) = ⊥
+LacksSelected selection bytes (input.Further number fault) = LacksQueried selection bytes (input.Further number fault)
 LacksSelected selection bytes (input.Column name) = ⊥
 LacksSelected selection bytes input.Sort = ⊥
 LacksSelected selection bytes input.Totals = ⊥

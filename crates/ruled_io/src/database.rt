@@ -1,19 +1,22 @@
 //! The rows that are asked of a database, or by a query.
 
-ghost use Rattle.std.specs.Prelude.{◌≡◌, None, Some, map, option_map, true, IfErr, IfOk};
+ghost use Rattle.std.specs.Prelude.{◌≡◌, ◌∷◌, None, Some, map, option_map, string_bytes, true, IfErr, IfOk};
 ghost use Rattle.csv.specs.Records.{fields_of};
+ghost use Rattle.ruled_sql.specs.Filled as sql;
+ghost use Rattle.ruled_io.specs.Faults.{Tells};
+ghost use Rattle.ruled_io.specs.Input as spec;
 ghost use Rattle.ruled_io.specs.Input.{AreAnswer, AreSelected, LacksSelected, table_of};
 ghost use Rattle.ruled_io.specs.Requests.{known_in};
 ghost use Rattle.ruled_io.specs.Runs.{AreAsked, LacksRowsAs};
 ghost use Rattle.ruled_io.specs.declared.request.Selection.TheVariants.{Query as Select};
 
-use crate::fault::InputFault;
+use crate::fault::{FurtherFault, InputFault};
 use crate::formats::Known;
 use crate::input::rows_in;
-use crate::request::{Query, Selection, Source};
+use crate::request::{Query, QueryTable, Selection, Source, sees_database};
 use ruled_database::{list_rows, table_rows};
 use ruled_row::TextRow;
-use ruled_sql::{query_rows, query_table};
+use ruled_sql::{NamedRows, query_rows, query_tables};
 use ruled_table::{named, padded};
 use std::alloc::{AllocError, Global};
 
@@ -28,7 +31,54 @@ fn table_of(alloc: Global, query: &Query, rows: Vec<TextRow>) -> Result<Vec<Text
     Ok(rows)
 }
 
-// The rows that a query answers of the rows that bytes hold, of whose format this is known.
+// The rows of a further table of a query, whose number is this, or why there are none.
+fn rows_read(
+    alloc: Global,
+    query: &Query,
+    number: usize,
+    table: &QueryTable,
+) -> Result<Vec<TextRow>, InputFault>
+    ensures rows { IfOk result (λ rows. map fields_of rows.items ≡ spec.rows_read query.now table.now) }
+    ensures fault { Tells (spec.fault_read query.now number table.now) result }
+{
+    if sees_database(table.known, &table.bytes) {
+        let fault = FurtherFault::Database;
+        return Err(InputFault::Further {
+            input: number,
+            fault,
+        });
+    }
+    match rows_in(alloc, table.known, &query.members, &table.bytes) {
+        Ok(rows) => Ok(table_of(alloc, query, rows)?),
+        Err(fault) => Err(fault.of_further(number)),
+    }
+}
+
+// The tables that a query reads, of which the first has these rows.
+fn tables_of<'q>(
+    alloc: Global,
+    query: &'q Query,
+    rows: Vec<TextRow>,
+) -> Result<Vec<NamedRows<'q>>, InputFault>
+    ensures tables { IfOk result (λ tables. map sql.table_of tables.items ≡ (string_bytes query.now.table, map fields_of rows.items) ∷ map (spec.further_table query.now) query.now.tables.items) }
+    ensures fault { Tells (spec.tables_fault query.now 0 query.now.tables.items) result }
+{
+    let mut tables = Vec::new(alloc);
+    tables.push(NamedRows {
+        name: query.table.as_str(),
+        rows,
+    })?;
+    for (number, table) in query.tables.iter().enumerate() {
+        let rows = rows_read(alloc, query, number, table)?;
+        tables.push(NamedRows {
+            name: table.name.as_str(),
+            rows,
+        })?;
+    }
+    Ok(tables)
+}
+
+// The rows that a query answers of the rows that bytes hold, of whose format this is known, and of those of further tables.
 fn queried_rows(
     alloc: Global,
     query: &Query,
@@ -39,9 +89,10 @@ fn queried_rows(
     ensures cause { known_in query.now.known bytes.now ≡ Some known → IfErr result (LacksSelected (Some (Select query.now)) bytes.now) }
 {
     let rows = rows_in(alloc, known, &query.members, bytes)?;
-    let table = table_of(alloc, query, rows)?;
+    let first = table_of(alloc, query, rows)?;
+    let tables = tables_of(alloc, query, first)?;
     let (text, null) = (query.text.as_str(), query.null.as_str());
-    Ok(query_table(alloc, query.table.as_str(), &table, text, query.steps, null)?)
+    Ok(query_tables(alloc, tables, text, query.steps, null)?)
 }
 
 // The rows that a query answers.

@@ -333,10 +333,22 @@ fn tell_refusal<W: Write>(fault: SqlFault, query: &Query, err: &mut W) -> io::Re
         None => write!(err, "{refusal}")?,
     }
     if let SqlFault::NoTable(_) = fault {
-        let name = Quoted(query.table.as_str());
-        return writeln!(err, "; the table of the rows is {name}, or input");
+        return tell_tables(query, err);
     }
     writeln!(err)
+}
+
+// Writes which tables of rows a query has. An error is the writer's.
+fn tell_tables<W: Write>(query: &Query, err: &mut W) -> io::Result<()> {
+    let name = Quoted(query.table.as_str());
+    if query.tables.is_empty() {
+        return writeln!(err, "; the table of the rows is {name}, or input");
+    }
+    write!(err, "; the tables of the rows are")?;
+    for table in &query.tables {
+        write!(err, " {},", Quoted(table.name.as_str()))?;
+    }
+    writeln!(err, " and {name} or input")
 }
 
 // The words for a log that isn't read.
@@ -362,13 +374,15 @@ impl RunFault {
 
     // The name of the input that has it, if there are several. A fault of what they are asked for has none.
     fn input_name(self, request: &Request) -> Option<&String> {
-        if request.further.is_empty() {
-            return None;
-        }
+        request.further_name(0)?;
         match self {
-            RunFault::Input(InputFault::Further { input, .. }) => {
-                Some(&request.further.get(input)?.name)
-            }
+            RunFault::Input(InputFault::Further { input, .. }) => request.further_name(input),
+            RunFault::Input(
+                InputFault::Sql(SqlFault::NoRows(table) | SqlFault::Columns { table, .. }),
+            ) => match table.checked_sub(1) {
+                Some(number) => request.further_name(number),
+                None => Some(&request.name),
+            },
             RunFault::Read(_)
             | RunFault::Input(
                 InputFault::Rows(_)

@@ -31,6 +31,6 @@ pub use crate::laws::both_ways_show_one_text;
 pub use crate::output::Output;
 pub use crate::pieces::Pieces;
 pub use crate::program::{Ending, Remarks, run};
-pub use crate::request::{FurtherInput, Log, Query, Request, Rows, Selection, Source};
+pub use crate::request::{FurtherInput, Log, Query, QueryTable, Request, Rows, Selection, Source};
 pub use ruled_csv::{Dialect, Fields, RowRules};
 pub use ruled_json::MemberRules;

@@ -37,6 +37,19 @@ impl Log {
     }
 }
 
+/// A table that a query reads beside that of the first input.
+#[derive(Drop)]
+pub struct QueryTable {
+    /// The name of its input in error lines.
+    pub input: String,
+    /// Its own name.
+    pub name: String,
+    /// What is known of its rows. A database is a fault.
+    pub known: Known,
+    /// All bytes of its input.
+    pub bytes: Vec<u8>,
+}
+
 /// A query in SQL.
 #[derive(Drop)]
 pub struct Query {
@@ -44,13 +57,15 @@ pub struct Query {
     pub text: String,
     /// What is known of the rows that it reads, unless these are a database's.
     pub known: Option<Known>,
-    /// Where these rows are, and how they are read, if they are JSON.
+    /// Where these rows are, and how they are read, if they are JSON. So are those of further tables.
     pub members: MemberRules,
     /// The name of the table of these rows, for which `input` does, too.
     pub table: String,
-    /// Names above them, if there are any.
+    /// Further tables that it reads, unless the first input is a database.
+    pub tables: Vec<QueryTable>,
+    /// Names above the rows of each table, if there are any.
     pub names: Vec<String>,
-    /// Whether row 0 has as many columns as the longest row.
+    /// Whether row 0 of each table has as many columns as its longest row.
     pub is_padded: bool,
     /// How many steps it may take: each row that it reads or returns is one.
     pub steps: u64,
@@ -58,8 +73,8 @@ pub struct Query {
     pub null: String,
 }
 
-// Whether these bytes are a database, where this is known of the format of rows.
-fn sees_database(known: Known, bytes: &[u8]) -> bool
+/// Whether these bytes are a database, where this is known of the format of rows.
+pub(crate) fn sees_database(known: Known, bytes: &[u8]) -> bool
     ensures { result ≡ spec.sees_database known bytes.now }
 {
     match known {
@@ -326,4 +341,14 @@ pub struct Request {
     pub rows: Rows,
     /// How they are shown.
     pub view: Options,
+}
+
+impl Request {
+    // The name of the further input of this number, which is that of a query's further table, if there is one.
+    pub(crate) fn further_name(&self, number: usize) -> Option<&String> {
+        if let Some(Selection::Query(query)) = self.source.selection() {
+            return Some(&query.tables.get(number)?.input);
+        }
+        Some(&self.further.get(number)?.name)
+    }
 }

@@ -1,20 +1,23 @@
 -- What is known of the statements that fill a table, and of what they lead to.
-use Rattle.std.proofs.Common.{◌≡◌, ◌<◌, ◌+◌, ◌∙◌, ◌∷◌, ◌++◌, ℕ, zero, suc, [], List, length, map, take, drop, get_or, slice_index_or, flat_map, codes, Bool, true, false, if◌then◌else◌, None, Some, inl, inr, refl, sym, ap, ap₂, subst, arith}
+use Rattle.std.proofs.Common.{◌≡◌, ◌<◌, ◌≤◌, ◌+◌, ◌∙◌, ◌∷◌, ◌++◌, ℕ, zero, suc, [], List, append-nil, length, map, take, drop, get_or, slice_index_or, flat_map, codes, Bool, true, false, if◌then◌else◌, None, Some, inl, inr, refl, sym, ap, ap₂, subst, subst₂, arith}
 use Rattle.std.specs.List.{join_by}
 use Rattle.std.specs.Prelude.{OnOk, Result, Ok, Err}
-use Rattle.std.proofs.lemmas.List.{append_assoc, map-append, take-append-drop, take_all, take_more}
+use Rattle.std.proofs.lemmas.Grind.{flat_map-append}
+use Rattle.std.proofs.lemmas.List.{append_assoc, drop-map, drop_more, get_or-map, length-map, map-append, nil_from_length, take-append-drop, take-map, take_all, take_more}
 use Rattle.std.proofs.lemmas.Option.{same_Some, none-some}
 use Rattle.csv.specs.Records.{Row as Fields, field_at, fields_of}
 use Rattle.sqlite_value.specs.Order.{Row}
 use Rattle.sqlite_trees.specs.declared.memory.MemStore.{MemStore}
 use Rattle.sqlite.specs.Held.{Held, state}
+use Rattle.sqlite.specs.Listing.{misses_table, understood}
 use Rattle.sqlite.specs.Steps.{over_memory}
 use Rattle.ruled_sql.specs.Answers.{IsAnswer, LacksAnswer, LacksText, is_memory, shown_rows}
 use Rattle.ruled_sql.specs.declared.fault.QueryFault.{QueryFault}
 use Rattle.ruled_sql.specs.declared.fault.QueryFault.TheVariants.{Change, Encoding, Limit, Memory, Missing, Refused}
 use Rattle.ruled_sql.specs.declared.fault.SqlFault.{SqlFault}
 use Rattle.ruled_sql.specs.declared.fault.SqlFault.TheVariants as sql
-use Rattle.ruled_sql.specs.Filled.{AreCut, AreRun, IsBlank, IsCalled, IsCalledBy, IsFaultOfStep, IsFilled, IsRun, IsStuck, IsUnfilled, LacksQueried, LacksTable, Step, columns_text, filling, insertions, left_by, names_no_table, steps, values_of}
+use Rattle.ruled_sql.specs.Filled.{AreCut, AreRun, IsCalled, IsFaultOfStep, IsFilled, IsRun, IsStuck, IsUnfilled, LacksNames, LacksQueried, Misses, LacksTable, Step, Table, columns_text, create_text, fillings, first_name, insertions, left_by, names_no_table, renamed, rows_by, steps, steps_of, table_of, values_of, with_rows}
+use Rattle.ruled_sql.specs.declared.filled.NamedRows.{NamedRows}
 use Rattle.sqlite.specs.declared.error.Error.{Error}
 
 -- ---- fields
@@ -49,9 +52,12 @@ module _ {X Y : Type 0} (f : X → List ℕ) (g : Y → List ℕ) (sep : List �
 
 -- ---- steps of a table
 
+abbrev filling : List ℕ → List ℕ → ℕ → List (List (List ℕ)) → List Step
+filling table columns count records = (create_text table columns, []) ∷ fillings table count records
+
 -- those of its rows, of which row 0 is this one, and so many others are below it
 pub table-steps : (table : List ℕ) (rows : List Fields) (first : Fields) (n : ℕ) → n + 1 ≡ length rows → first ≡ get_or rows 0 first → (columns : List ℕ) (count : ℕ)
-    → columns ≡ columns_text (fields_of first) (map fields_of (take n (drop 1 rows))) → count ≡ length (fields_of first) → filling table columns count (map fields_of (take n (drop 1 rows))) ≡ steps table (map fields_of rows)
+    → columns ≡ columns_text (fields_of first) (map fields_of (take n (drop 1 rows))) → count ≡ length (fields_of first) → (create_text table columns, []) ∷ fillings table count (map fields_of (take n (drop 1 rows))) ≡ steps table (map fields_of rows)
 table-steps table [] first n whole is columns count named counted = absurd (omega (arith, whole))
 table-steps table (x ∷ xs) first n whole is columns count named counted =
     let all : take n xs ≡ xs = take_all n xs (omega (arith, whole)) in
@@ -59,6 +65,11 @@ table-steps table (x ∷ xs) first n whole is columns count named counted =
     (named ∙ ap (λ (fields : Fields). columns_text (fields_of fields) (map fields_of (take n xs))) is)
     (counted ∙ ap (λ (fields : Fields). length (fields_of fields)) is)
     ∙ ap (λ (records : List Fields). filling table (columns_text (fields_of x) (map fields_of records)) (length (fields_of x)) (map fields_of records)) all
+
+-- without rows there are none
+pub no-steps : (table : List ℕ) (rows : List Fields) → length rows ≡ 0 → steps table (map fields_of rows) ≡ []
+no-steps table [] none = refl
+no-steps table (x ∷ xs) none = absurd (omega (arith, none))
 
 -- ---- steps that are run
 
@@ -83,8 +94,9 @@ run-more text count records i x old mid new within is before run =
     subst (λ (all : List Step). AreRun all old new) (sym more) (run-all _ _ old mid new before (run-alone (step x) mid new run))
 
 -- a table that is made, and filled
-pub filled-by : (create : Step) (others : List Step) (made new : Held MemStore) → IsFilled (create ∷ []) made → AreRun others made new → IsFilled (create ∷ others) new
-filled-by create others made new from runs = (from.0, from.1, run-all (create ∷ []) others from.0 made new from.2 runs)
+pub made-runs : {X : Type 0} (result : Result X Error) (create : Step) (others : List Step) (old mid new : Held MemStore) → IsRun create old mid → OnOk result (AreRun others mid new) → OnOk result (AreRun (create ∷ others) old new)
+made-runs (Ok x) create others old mid new run runs = (mid, run, runs)
+made-runs (Err error) create others old mid new run runs = tt
 
 -- rows that are put into a table, and a last step
 pub settled : {X : Type 0} (result : Result X Error) (rows : List Step) (settle : Step) (old mid new : Held MemStore) → AreRun rows old mid → OnOk result (IsRun settle mid new) → OnOk result (AreRun (rows ++ settle ∷ []) old new)
@@ -116,63 +128,155 @@ cut-more text count records i x old mid error within is before stuck =
     ∙ ap (λ (fields : Fields). of (take i records) ++ (step fields ∷ of rest)) (sym is) in
     subst (λ (all : List Step). AreCut all old error) (sym whole) (cut-behind (of (take i records)) (step x ∷ of rest) old mid error before (inl stuck))
 
--- the fault for one
-pub unfilled : (all : List Step) (blank : Held MemStore) → IsBlank blank → (error : Error) (fault : SqlFault) → IsFaultOfStep error fault → (is_memory error ≡ false → AreCut all blank error) → LacksTable all fault
-unfilled all blank is error sql.Database of cut = absurd of
-unfilled all blank is error sql.Damage of cut = absurd of
-unfilled all blank is error sql.NoRows of cut = absurd of
-unfilled all blank is error (sql.Columns found) of cut = (blank, is, subst (λ (it : Error). AreCut all blank it) (sym of.0) (cut of.1))
-unfilled all blank is error (sql.NoTable left) of cut = absurd of
-unfilled all blank is error (sql.Query found) of cut = absurd of
-unfilled all blank is error sql.Memory of cut = tt
+-- ---- several tables
 
--- a table that isn't made isn't filled
-pub unmade : (create : Step) (others : List Step) (fault : SqlFault) → LacksTable (create ∷ []) fault → LacksTable (create ∷ others) fault
-unmade create others sql.Database lacks = absurd lacks
-unmade create others sql.Damage lacks = absurd lacks
-unmade create others sql.NoRows lacks = absurd lacks
-unmade create others (sql.Columns error) lacks = (lacks.0, lacks.1, cut-front (create ∷ []) others lacks.0 error lacks.2)
-unmade create others (sql.NoTable left) lacks = absurd lacks
-unmade create others (sql.Query found) lacks = absurd lacks
-unmade create others sql.Memory lacks = tt
+pub with-all : (tables : List Table) → with_rows true tables ≡ tables
+with-all [] = refl
+with-all (table ∷ tables) = ap (λ (others : List Table). table ∷ others) (with-all tables)
 
--- one that is made may not be filled
-pub unfilled-by : (create : Step) (others : List Step) (made : Held MemStore) → IsFilled (create ∷ []) made → (error : Error) (fault : SqlFault) → IsFaultOfStep error fault → (is_memory error ≡ false → AreCut others made error)
-    → LacksTable (create ∷ others) fault
-unfilled-by create others made from error fault of cut = unfilled (create ∷ others) from.0 from.1 error fault of (λ sound. cut-behind (create ∷ []) others from.0 made error from.2 (cut sound))
+-- a first one that is called otherwise has the same rows
+renamed-rows : (name : List ℕ) (tables : List Table) (n : ℕ) → (slice_index_or (renamed name tables) n ([], [])).1 ≡ (slice_index_or tables n ([], [])).1
+renamed-rows name [] n = refl
+renamed-rows name (first ∷ others) zero = refl
+renamed-rows name (first ∷ others) (suc n) = refl
 
--- a table that can't have its own name
-pub called-input : (name query text creation : List ℕ) (fault : SqlFault) (error : Error) → text ≡ creation → fault ≡ sql.Columns error → LacksTable ((text, []) ∷ []) fault → IsCalledBy ((creation, []) ∷ []) name query (codes "input")
-called-input name query text creation fault error same is lacks =
-    inr (refl, inr (error, subst (λ (it : List ℕ). IsUnfilled ((it, []) ∷ []) error) same (subst (λ (it : SqlFault). LacksTable ((text, []) ∷ []) it) is lacks)))
+renamed-length : (name : List ℕ) (tables : List Table) → length (renamed name tables) ≡ length tables
+renamed-length name [] = refl
+renamed-length name (first ∷ others) = refl
 
--- ---- why a query has no answer of a table
+nameless : (name : List ℕ) (tables : List Table) (misses : Bool) (number : ℕ) → LacksNames (if misses then renamed name tables else tables) (sql.NoRows number) → LacksNames tables (sql.NoRows number)
+nameless name tables false number lacks = lacks
+nameless name tables true number lacks = (subst (λ (n : ℕ). number < n) (renamed-length name tables) lacks.0, sym (renamed-rows name tables number) ∙ lacks.1)
 
-module _ (name called : List ℕ) (table : List (List (List ℕ))) (query : List ℕ) (most : ℕ) (either : IsCalled name table query called) where
-  pub lacks-table : (all : List Step) → all ≡ steps called table → (fault : SqlFault) → LacksTable all fault → LacksQueried name table query most fault
-  lacks-table all is sql.Database lacks = absurd lacks
-  lacks-table all is sql.Damage lacks = absurd lacks
-  lacks-table all is sql.NoRows lacks = absurd lacks
-  lacks-table all is (sql.Columns error) lacks = (called, either, subst (λ (some : List Step). IsUnfilled some error) is lacks)
-  lacks-table all is (sql.NoTable left) lacks = absurd lacks
-  lacks-table all is (sql.Query found) lacks = absurd lacks
-  lacks-table all is sql.Memory lacks = tt
+pub called-names : (tables called : List Table) (query : List ℕ) → IsCalled tables query called → (number : ℕ) → LacksNames called (sql.NoRows number) → LacksNames tables (sql.NoRows number)
+called-names tables called query is number lacks = nameless (codes "input") tables is.0 number (subst (λ (some : List Table). LacksNames some (sql.NoRows number)) is.2 lacks)
 
-  pub no-rows : (all : List Step) → all ≡ steps called table → (fault : SqlFault) → LacksTable all fault → fault ≡ sql.NoRows → ⊥
-  no-rows all is fault lacks none = subst (λ (it : SqlFault). LacksTable all it) none lacks
+module _ (all : Bool) (tables : List NamedRows) (number : ℕ) (x : NamedRows) (within : number < length tables) (is : x ≡ get_or tables number x) where
+  abbrev of : List NamedRows → List Table
+  of some = with_rows all (map table_of some)
 
-  module _ (connection : Held MemStore) (filled : IsFilled (steps called table) connection) where
-    lacks-by : (fault : QueryFault) → LacksAnswer name query most (state over_memory connection).now fault → (no_table : Bool) → names_no_table fault ≡ no_table
-        → LacksQueried name table query most (if no_table then sql.NoTable (left_by fault) else sql.Query fault)
+  abbrev own : List Step
+  own = steps x.name.now (rows_by all (map fields_of x.rows.items))
+
+  abbrev by : Table → Table
+  by it = (it.0, rows_by all it.1)
+
+  taken : take (number + 1) tables ≡ take number tables ++ x ∷ []
+  taken = take_more tables number x within ∙ ap (λ (it : NamedRows). take number tables ++ it ∷ []) (sym is)
+
+  -- the steps of one table more
+  pub steps-more : steps_of (of (take (number + 1) tables)) ≡ steps_of (of (take number tables)) ++ own
+  steps-more =
+      ap (λ (some : List NamedRows). steps_of (of some)) taken
+      ∙ ap (λ (some : List Table). steps_of (with_rows all some)) (map-append table_of (take number tables) (x ∷ []))
+      ∙ ap steps_of (map-append by (map table_of (take number tables)) (table_of x ∷ []))
+      ∙ flat_map-append (λ (it : Table). steps it.0 it.1) (of (take number tables)) (by (table_of x) ∷ [])
+      ∙ ap (λ (some : List Step). steps_of (of (take number tables)) ++ some) (append-nil own)
+
+  front : take number (of tables) ≡ of (take number tables)
+  front = take-map by number (map table_of tables) ∙ ap (with_rows all) (take-map table_of number tables)
+
+  next : take 1 (drop number (of tables)) ≡ by (table_of x) ∷ []
+  next =
+      ap (take 1) (drop-map by number (map table_of tables) ∙ ap (with_rows all) (drop-map table_of number tables))
+      ∙ ap (λ (some : List NamedRows). take 1 (of some)) (drop_more tables number x within ∙ ap (λ (it : NamedRows). it ∷ drop (number + 1) tables) (sym is))
+
+  -- one that isn't made
+  module _ (connection : Held MemStore) (from : IsFilled (steps_of (of (take number tables))) connection) where
+    unfilled : (error : Error) → AreCut own connection error → IsUnfilled number (of tables) error
+    unfilled error cut = (
+      from.0,
+      from.1,
+      connection,
+      subst (λ (some : List Table). AreRun (steps_of some) from.0 connection) (sym front) from.2,
+      subst (λ (some : List Table). AreCut (steps_of some) connection error) (sym next) (cut-front own [] connection error cut),
+    )
+
+    pub not-made : (error : Error) (fault : SqlFault) → IsFaultOfStep number error fault → (is_memory error ≡ false → AreCut own connection error) → LacksTable all (map table_of tables) fault
+    not-made error sql.Database by cut = absurd by
+    not-made error sql.Damage by cut = absurd by
+    not-made error (sql.NoRows table) by cut = absurd by
+    not-made error (sql.Columns table found) by cut =
+        subst₂ (λ (n : ℕ) (it : Error). IsUnfilled n (of tables) it) (sym by.0) (sym by.1) (unfilled error (cut by.2))
+    not-made error (sql.NoTable left) by cut = absurd by
+    not-made error (sql.Query found) by cut = absurd by
+    not-made error sql.Memory by cut = tt
+
+    pub made-more : (new : Held MemStore) → AreRun own connection new → IsFilled (steps_of (of (take (number + 1) tables))) new
+    made-more new runs = (from.0, from.1, subst (λ (some : List Step). AreRun some from.0 new) (sym steps-more) (run-all (steps_of (of (take number tables))) own from.0 connection new from.2 runs))
+
+  -- one without rows
+  none-below : (b : Bool) (rows : List (List (List ℕ))) → rows_by b rows ≡ [] → rows ≡ []
+  none-below true rows none = none
+  none-below false [] none = refl
+  none-below false (row ∷ rows) none = absurd (cc)
+
+  pub rowless : (rows : List Fields) → map fields_of rows ≡ rows_by all (map fields_of x.rows.items) → length rows ≡ 0 → LacksNames (map table_of tables) (sql.NoRows number)
+  rowless rows same none =
+      let bare : rows_by all (map fields_of x.rows.items) ≡ [] = sym same ∙ ap (map fields_of) (nil_from_length rows none) in
+      let empty : map fields_of x.rows.items ≡ [] = none-below all (map fields_of x.rows.items) bare in (
+        subst (λ (n : ℕ). number < n) (sym (length-map tables table_of)) within,
+        ap (λ (it : Table). it.1) (get_or-map table_of tables number x ([], []) within) ∙ ap (λ (it : NamedRows). map fields_of it.rows.items) (sym is) ∙ empty,
+      )
+
+-- all are made
+pub made-all : (all : Bool) (tables : List NamedRows) (number : ℕ) → length tables ≤ number → (connection : Held MemStore) → IsFilled (steps_of (with_rows all (map table_of (take number tables)))) connection → IsFilled (steps_of (with_rows all (map table_of tables))) connection
+made-all all tables number past connection from = subst (λ (some : List NamedRows). IsFilled (steps_of (with_rows all (map table_of some))) connection) (take_all number tables past) from
+
+-- a call that doesn't fail
+pub ok-runs : {X : Type 0} (result : Result X Error) (P : Type 0) → ((error : Error) → result ≡ Err error → ⊥) → OnOk result P → P
+ok-runs (Ok x) P none runs = runs
+ok-runs (Err error) P none runs = absurd (none error refl)
+
+-- whether a query names another table
+pub misses-by : (tables : List Table) (query : List ℕ) (made : Held MemStore) → IsFilled (steps_of (with_rows false tables)) made → (lacks : Bool) → lacks ≡ misses_table (understood (state over_memory made).now.schema query)
+    → Misses tables query lacks
+misses-by tables query made from false is = (made, from, sym is)
+misses-by tables query made from true is = inl (made, from, sym is)
+
+-- ---- why a query has no answer of tables
+
+pub lacks-names : (tables : List Table) (query : List ℕ) (most : ℕ) (fault : SqlFault) → LacksNames tables fault → LacksQueried tables query most fault
+lacks-names tables query most sql.Database lacks = absurd lacks
+lacks-names tables query most sql.Damage lacks = absurd lacks
+lacks-names tables query most (sql.NoRows number) lacks = lacks
+lacks-names tables query most (sql.Columns number error) lacks = absurd lacks
+lacks-names tables query most (sql.NoTable left) lacks = absurd lacks
+lacks-names tables query most (sql.Query found) lacks = absurd lacks
+lacks-names tables query most sql.Memory lacks = tt
+
+-- tables that are made, or lack a row 0
+pub no-names : (tables : List Table) (all : Bool) (fault : SqlFault) → ((number : ℕ) (error : Error) → fault ≡ sql.Columns number error → ⊥) → LacksTable all tables fault → LacksNames tables fault
+no-names tables all sql.Database none lacks = lacks
+no-names tables all sql.Damage none lacks = lacks
+no-names tables all (sql.NoRows number) none lacks = lacks
+no-names tables all (sql.Columns number error) none lacks = absurd (none number error refl)
+no-names tables all (sql.NoTable left) none lacks = lacks
+no-names tables all (sql.Query found) none lacks = lacks
+no-names tables all sql.Memory none lacks = lacks
+
+module _ (tables called : List Table) (query : List ℕ) (most : ℕ) (either : IsCalled tables query called) where
+  pub lacks-table : (fault : SqlFault) → LacksTable true called fault → LacksQueried tables query most fault
+  lacks-table sql.Database lacks = absurd lacks
+  lacks-table sql.Damage lacks = absurd lacks
+  lacks-table (sql.NoRows number) lacks = called-names tables called query either number lacks
+  lacks-table (sql.Columns number error) lacks = (called, either, subst (λ (some : List Table). IsUnfilled number some error) (with-all called) lacks)
+  lacks-table (sql.NoTable left) lacks = absurd lacks
+  lacks-table (sql.Query found) lacks = absurd lacks
+  lacks-table sql.Memory lacks = tt
+
+  module _ (connection : Held MemStore) (filled : IsFilled (steps_of called) connection) where
+    lacks-by : (fault : QueryFault) → LacksAnswer (first_name tables) query most (state over_memory connection).now fault → (no_table : Bool) → names_no_table fault ≡ no_table
+        → LacksQueried tables query most (if no_table then sql.NoTable (left_by fault) else sql.Query fault)
     lacks-by fault lacks false is = (is, (called, either, connection, filled, lacks))
     lacks-by fault lacks true is = (called, either, connection, filled, (fault, is, refl, lacks))
 
-    pub lacks-answer : (fault : QueryFault) → LacksAnswer name query most (state over_memory connection).now fault → LacksQueried name table query most (if names_no_table fault then sql.NoTable (left_by fault) else sql.Query fault)
+    pub lacks-answer : (fault : QueryFault) → LacksAnswer (first_name tables) query most (state over_memory connection).now fault → LacksQueried tables query most (if names_no_table fault then sql.NoTable (left_by fault) else sql.Query fault)
     lacks-answer fault lacks = lacks-by fault lacks (names_no_table fault) refl
 
     -- an answer that isn't UTF-8
     pub lacks-text : (names : List (List ℕ)) (answer : List Row) → IsAnswer query most (state over_memory connection).now names answer → (fault : QueryFault) → LacksText (shown_rows [] names answer) fault
-        → LacksQueried name table query most (sql.Query fault)
+        → LacksQueried tables query most (sql.Query fault)
     lacks-text names answer is (Refused error) lacks = absurd lacks
     lacks-text names answer is (Missing what left) lacks = absurd lacks
     lacks-text names answer is (Limit steps) lacks = absurd lacks

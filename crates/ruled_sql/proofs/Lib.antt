@@ -1,3 +1,2 @@
 mod Answering
 mod Filling
-mod Refused

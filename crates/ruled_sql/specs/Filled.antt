@@ -1,11 +1,11 @@
--- The database that a table of rows fills, and the rows that a query reads from it, or why it reads none.
-use Rattle.std.specs.Prelude.{◌≡◌, ◌⊎◌, ⊤, ℕ, ◌+◌, ◌-◌, ◌==◌, ◌&&◌, ◌||◌, not, nat_le, nat_lt, Bool, true, false, List, [], ◌∷◌, ◌++◌, length, map, take, drop, position}
+-- The database that tables of rows fill, and the rows that a query reads from it, or why it reads none.
+use Rattle.std.specs.Prelude.{◌≡◌, ◌⊎◌, ◌<◌, ⊤, ℕ, ◌+◌, ◌-◌, ◌==◌, ◌&&◌, ◌||◌, not, nat_le, nat_lt, Bool, true, false, List, [], ◌∷◌, ◌++◌, length, map, take, drop, position}
 use Rattle.std.specs.Prelude.{nat_eq, slice_index_or, codes, decimal, chars, Option, Some, None, Ok, Err, if◌then◌else◌}
 use Rattle.std.specs.Char.{encode_utf8}
 use Rattle.std.specs.Cmp.Lexicographic.{pointwise}
 use Rattle.std.specs.Int.{is_in_range}
 use Rattle.std.specs.List.{flat_map, join_by, list_all, range_with_len, repeat}
-use Rattle.csv.specs.Records.{field_at}
+use Rattle.csv.specs.Records.{field_at, fields_of}
 use Rattle.sqlite_value.specs.Order.{Row}
 use Rattle.sqlite_value.specs.declared.value.Value.{Value}
 use Rattle.sqlite_value.specs.declared.value.Value.TheVariants.{Null, Text}
@@ -24,6 +24,7 @@ use Rattle.ruled_sql.specs.declared.fault.QueryFault.TheVariants.{Missing, Refus
 use Rattle.ruled_sql.specs.declared.fault.SqlFault.{SqlFault}
 use Rattle.ruled_sql.specs.declared.lack.Meaning.TheVariants as means
 use Rattle.ruled_sql.specs.declared.fault.SqlFault.TheVariants as sql
+use Rattle.ruled_sql.specs.declared.filled.NamedRows.{NamedRows}
 
 -- ---- numbers
 
@@ -135,14 +136,40 @@ insertions text count records = map (λ fields. (text, values_of count fields)) 
 abbrev pub fillings : List ℕ → ℕ → List (List (List ℕ)) → List Step
 fillings table count records = insertions (insert_text table count) count records ++ (settle_text table, []) ∷ []
 
--- the statements that make a table and fill it
-abbrev pub filling : List ℕ → List ℕ → ℕ → List (List (List ℕ)) → List Step
-filling table columns count records = (create_text table columns, []) ∷ fillings table count records
-
--- those for rows, of which row 0 has the names of the columns
+-- the statements that make a table of rows and fill it; row 0 has the names of its columns
 abbrev pub steps : List ℕ → List (List (List ℕ)) → List Step
 steps table [] = []
-steps table (names ∷ records) = filling table (columns_text names records) (length names) records
+steps table (names ∷ records) = (create_text table (columns_text names records), []) ∷ fillings table (length names) records
+
+-- ---- tables
+
+-- the name of a table, and its rows
+abbrev pub Table : Type 0
+Table = List ℕ × List (List (List ℕ))
+
+abbrev pub table_of : NamedRows → Table
+table_of it = (it.name.now, map fields_of it.rows.items)
+
+abbrev pub first_name : List Table → List ℕ
+first_name [] = []
+first_name (first ∷ others) = first.0
+
+-- the first one has this name
+abbrev pub renamed : List ℕ → List Table → List Table
+renamed name [] = []
+renamed name (first ∷ others) = (name, first.1) ∷ others
+
+-- each has all of its rows, or row 0 alone
+abbrev pub rows_by : Bool → List (List (List ℕ)) → List (List (List ℕ))
+rows_by true rows = rows
+rows_by false rows = take 1 rows
+
+abbrev pub with_rows : Bool → List Table → List Table
+with_rows all tables = map (λ it. (it.0, rows_by all it.1)) tables
+
+-- the statements that make and fill them, one table after another
+abbrev pub steps_of : List Table → List Step
+steps_of tables = flat_map (λ it. steps it.0 it.1) tables
 
 -- ---- the database
 
@@ -172,28 +199,30 @@ pub record IsBlank (connection : Held MemStore) : Type 0 where
 abbrev pub IsFilled : List Step → Held MemStore → Type 0
 IsFilled all connection = (blank : Held MemStore) × IsBlank blank × AreRun all blank connection
 
--- they don't
-abbrev pub IsUnfilled : List Step → Error → Type 0
-IsUnfilled all error = (blank : Held MemStore) × IsBlank blank × AreCut all blank error
+-- those of the table of this number don't, where those of the tables before it do
+abbrev pub IsUnfilled : ℕ → List Table → Error → Type 0
+IsUnfilled number tables error =
+    (blank : Held MemStore) × IsBlank blank × (mid : Held MemStore) × AreRun (steps_of (take number tables)) blank mid × AreCut (steps_of (take 1 (drop number tables))) mid error
 
 -- the steps lead to a database that lacks a table of the query, or none of them
 abbrev pub IsLacking : List Step → List ℕ → Bool → Type 0
 IsLacking all query lacks = (made : Held MemStore) × IsFilled all made × (misses_table (understood (state over_memory made).now.schema query) ≡ lacks)
 
--- a table has its own name where that is the only one that the query needs, and else is called `input`
-abbrev pub IsCalledBy : List Step → List ℕ → List ℕ → List ℕ → Type 0
-IsCalledBy creation name query called =
-    ((called ≡ name) × IsLacking creation query false) ⊎ ((called ≡ codes "input") × (IsLacking creation query true ⊎ ((error : Error) × IsUnfilled creation error)))
+-- the query names a table that isn't among these, or they can't be made; or it names these alone
+abbrev pub Misses : List Table → List ℕ → Bool → Type 0
+Misses tables query false = IsLacking (steps_of (with_rows false tables)) query false
+Misses tables query true = IsLacking (steps_of (with_rows false tables)) query true ⊎ ((number : ℕ) × (error : Error) × IsUnfilled number (with_rows false tables) error)
 
-abbrev pub IsCalled : List ℕ → List (List (List ℕ)) → List ℕ → List ℕ → Type 0
-IsCalled name table query called = IsCalledBy (take 1 (steps name table)) name query called
+-- so each has its own name, or the first is called `input`
+abbrev pub IsCalled : List Table → List ℕ → List Table → Type 0
+IsCalled tables query called = (misses : Bool) × Misses tables query misses × (called ≡ (if misses then renamed (codes "input") tables else tables))
 
--- the rows that a query answers of a table of rows, which has this name or is called `input`, in so many steps at most
-pub record AreQueried (name : List ℕ) (table : List (List (List ℕ))) (query : List ℕ) (most : ℕ) (null_text : List ℕ) (rows : List (List (List ℕ))) : Type 0 where
-  pub called : List ℕ
-  pub either : IsCalled name table query called
+-- the rows that a query answers of tables of rows, in so many steps at most
+pub record AreQueried (tables : List Table) (query : List ℕ) (most : ℕ) (null_text : List ℕ) (rows : List (List (List ℕ))) : Type 0 where
+  pub called : List Table
+  pub names_are : IsCalled tables query called
   pub connection : Held MemStore
-  pub filled : IsFilled (steps called table) connection
+  pub filled : IsFilled (steps_of called) connection
   pub names : List (List ℕ)
   pub answer : List Row
   pub is : IsAnswer query most (state over_memory connection).now names answer
@@ -201,16 +230,21 @@ pub record AreQueried (name : List ℕ) (table : List (List (List ℕ))) (query 
 
 -- ---- why it answers none
 
--- the steps lead to no table, unless memory was refused
-abbrev pub LacksTable : List Step → SqlFault → Type 0
-LacksTable all (sql.Columns error) = IsUnfilled all error
-LacksTable all sql.Memory = ⊤
-LacksTable all fault = ⊥
+-- a table has no row 0, unless memory was refused
+abbrev pub LacksNames : List Table → SqlFault → Type 0
+LacksNames tables (sql.NoRows number) = (number < length tables) × ((slice_index_or tables number ([], [])).1 ≡ [])
+LacksNames tables sql.Memory = ⊤
+LacksNames tables fault = ⊥
 
-abbrev pub IsFaultOfStep : Error → SqlFault → Type 0
-IsFaultOfStep error (sql.Columns found) = (found ≡ error) × (is_memory error ≡ false)
-IsFaultOfStep error sql.Memory = ⊤
-IsFaultOfStep error fault = ⊥
+-- or the steps lead to no table
+abbrev pub LacksTable : Bool → List Table → SqlFault → Type 0
+LacksTable all tables (sql.Columns number error) = IsUnfilled number (with_rows all tables) error
+LacksTable all tables fault = LacksNames tables fault
+
+abbrev pub IsFaultOfStep : ℕ → Error → SqlFault → Type 0
+IsFaultOfStep table error (sql.Columns number found) = (number ≡ table) × (found ≡ error) × (is_memory error ≡ false)
+IsFaultOfStep table error sql.Memory = ⊤
+IsFaultOfStep table error fault = ⊥
 
 -- an error says that a table is missing
 abbrev pub is_no_table : Error → Bool
@@ -227,17 +261,17 @@ abbrev pub left_by : QueryFault → Option ℕ
 left_by (Missing what left) = Some left
 left_by fault = None
 
--- the query is asked of a database that the table fills
-abbrev pub IsAsked : List ℕ → List (List (List ℕ)) → List ℕ → (Database → Type 0) → Type 0
-IsAsked name table query Lacks = (called : List ℕ) × IsCalled name table query called × (connection : Held MemStore) × IsFilled (steps called table) connection
+-- the query is asked of a database that the tables fill
+abbrev pub IsAsked : List Table → List ℕ → (Database → Type 0) → Type 0
+IsAsked tables query Lacks = (called : List Table) × IsCalled tables query called × (connection : Held MemStore) × IsFilled (steps_of called) connection
     × Lacks (state over_memory connection).now
 
--- why a query has no answer of a table of rows, unless memory was refused
-abbrev pub LacksQueried : List ℕ → List (List (List ℕ)) → List ℕ → ℕ → SqlFault → Type 0
-LacksQueried name table query most sql.NoRows = table ≡ []
-LacksQueried name table query most (sql.Columns error) = (called : List ℕ) × IsCalled name table query called × IsUnfilled (steps called table) error
-LacksQueried name table query most (sql.NoTable left) = IsAsked name table query
-    (λ db. (fault : QueryFault) × (names_no_table fault ≡ true) × (left ≡ left_by fault) × LacksAnswer name query most db fault)
-LacksQueried name table query most (sql.Query fault) = (names_no_table fault ≡ false) × IsAsked name table query (λ db. LacksAnswer name query most db fault)
-LacksQueried name table query most sql.Memory = ⊤
-LacksQueried name table query most fault = ⊥
+-- why a query has no answer of tables of rows, unless memory was refused
+abbrev pub LacksQueried : List Table → List ℕ → ℕ → SqlFault → Type 0
+LacksQueried tables query most (sql.NoRows number) = LacksNames tables (sql.NoRows number)
+LacksQueried tables query most (sql.Columns number error) = (called : List Table) × IsCalled tables query called × IsUnfilled number called error
+LacksQueried tables query most (sql.NoTable left) = IsAsked tables query
+    (λ db. (fault : QueryFault) × (names_no_table fault ≡ true) × (left ≡ left_by fault) × LacksAnswer (first_name tables) query most db fault)
+LacksQueried tables query most (sql.Query fault) = (names_no_table fault ≡ false) × IsAsked tables query (λ db. LacksAnswer (first_name tables) query most db fault)
+LacksQueried tables query most sql.Memory = ⊤
+LacksQueried tables query most fault = ⊥

@@ -25,9 +25,9 @@ query_fault_text Memory = Some (codes "out of memory")
 abbrev pub sql_fault_text : SqlFault → Option (List ℕ)
 sql_fault_text sql.Database = Some (codes "not an SQLite database, or it is encrypted or of an unsupported kind")
 sql_fault_text sql.Damage = Some (codes "a query can't read this database, but --table may")
-sql_fault_text sql.NoRows = Some (codes "there is no row 0, so there is no table")
-sql_fault_text (sql.Columns (SqlInputError Exists)) = Some (codes "two columns have one name, whose case doesn't count")
-sql_fault_text (sql.Columns error) = None
+sql_fault_text (sql.NoRows table) = Some (codes "there is no row 0, so there is no table")
+sql_fault_text (sql.Columns table (SqlInputError Exists)) = Some (codes "two columns have one name, whose case doesn't count")
+sql_fault_text (sql.Columns table error) = None
 sql_fault_text (sql.NoTable left) = Some (codes "no such table")
 sql_fault_text (sql.Query fault) = query_fault_text fault
 sql_fault_text sql.Memory = Some (codes "out of memory")

@@ -40,11 +40,11 @@ pub enum SqlFault {
     Database,
     /// The database is damaged, or of an unsupported kind.
     Damage,
-    /// There is no row 0 that names the columns of a table.
-    NoRows,
-    /// The rows make no table, as this error says: for the names of row 0, or for a row that is too long.
-    Columns(Error),
-    /// The query names another table than that of the rows: by the word from which so many bytes of it are left, if that is
+    /// The table of this number, counted from 0, has no row 0 that names its columns.
+    NoRows(usize),
+    /// The rows of the table of this number make none, as this error says: for its name, for the names of row 0, or for a row that is too long.
+    Columns { table: usize, error: Error },
+    /// The query names another table than those of the rows: by the word from which so many bytes of it are left, if that is
     /// found.
     NoTable(Option<usize>),
     /// The query has none.
@@ -89,6 +89,14 @@ impl From<AllocError> for SqlFault {
     ghost from_gives = { λ _ fault. fault ≡ SqlFault.Memory };
 
     fn from(_error: AllocError) -> SqlFault {
+        SqlFault::Memory
+    }
+}
+
+impl<T: Drop> From<AllocFailed<T>> for SqlFault {
+    ghost from_gives = { λ _ fault. fault ≡ SqlFault.Memory };
+
+    fn from(_error: AllocFailed<T>) -> SqlFault {
         SqlFault::Memory
     }
 }
@@ -139,11 +147,14 @@ impl Display for SqlFault {
                 "not an SQLite database, or it is encrypted or of an unsupported kind"
             }
             SqlFault::Damage => "a query can't read this database, but --table may",
-            SqlFault::NoRows => "there is no row 0, so there is no table",
-            SqlFault::Columns(Error::SqlInputError(CompileError::Exists)) => {
-                "two columns have one name, whose case doesn't count"
+            SqlFault::NoRows(_) => "there is no row 0, so there is no table",
+            SqlFault::Columns {
+                error: Error::SqlInputError(CompileError::Exists),
+                ..
+            } => "two columns have one name, whose case doesn't count",
+            SqlFault::Columns { error, .. } => {
+                return write!(f, "the columns make no table: {error}");
             }
-            SqlFault::Columns(error) => return write!(f, "the columns make no table: {error}"),
             SqlFault::NoTable(_) => "no such table",
             SqlFault::Query(fault) => return fault.fmt(f),
             SqlFault::Memory => "out of memory",

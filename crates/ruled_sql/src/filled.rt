@@ -1,6 +1,6 @@
 //! A database that rows fill.
 
-ghost use Rattle.std.specs.Prelude.{◌≡◌, [], ◌∷◌, false, map, IfErr, IfOk, OnOk};
+ghost use Rattle.std.specs.Prelude.{◌≡◌, false, map, IfErr, IfOk, OnOk};
 ghost use Rattle.csv.specs.Records.{fields_of};
 ghost use Rattle.sqlite.specs.Held.{state};
 ghost use Rattle.sqlite.specs.Listing.{misses_table, understood};
@@ -18,6 +18,15 @@ use sqlite_resolve::CompileError;
 use sqlite_trees::memory::MemStore;
 use sqlite_value::value::ValueRef;
 use std::alloc::{AllocError, Global};
+
+/// A table of rows, of which row 0 has the names of its columns.
+#[derive(Drop)]
+pub struct NamedRows<'a> {
+    /// Its name in a query.
+    pub name: &'a str,
+    /// Its rows.
+    pub rows: Vec<TextRow>,
+}
 
 // The value of a field.
 fn value_of(text: &str) -> ValueRef<'_>
@@ -109,26 +118,69 @@ fn fill(
     run(connection, settling.as_str(), &[])
 }
 
-// Why a table can't be made or filled.
-fn fault_of(error: Error) -> SqlFault
-    ensures { spec.IsFaultOfStep error result }
+// Makes a table of this name, and puts rows into it. Without row 0 there is none.
+fn make(
+    alloc: Global,
+    connection: &mut Connection<MemStore>,
+    name: &str,
+    rows: &[TextRow],
+) -> Result<(), Error>
+    ensures runs { OnOk result (spec.AreRun (spec.steps name.now (map fields_of rows.now)) connection.old connection.new) }
+    ensures fails { IfErr result (λ error. is_memory error ≡ false → spec.AreCut (spec.steps name.now (map fields_of rows.now)) connection.old error) }
+{
+    let [names, records @ ..] = rows else {
+        return Ok(());
+    };
+    let columns = columns_text(alloc, names, records)?;
+    let creation = create_text(alloc, name, columns.as_str())?;
+    run(connection, creation.as_str(), &[])?;
+    fill(alloc, connection, name, names.len(), records)
+}
+
+// Why the table of this number can't be made or filled.
+fn fault_of(table: usize, error: Error) -> SqlFault
+    ensures { spec.IsFaultOfStep table error result }
 {
     if is_memory(error) {
         return SqlFault::Memory;
     }
-    SqlFault::Columns(error)
+    SqlFault::Columns { table, error }
 }
 
-// A database with an empty table, which this statement makes.
-fn created(alloc: Global, text: &str) -> Result<Connection<MemStore>, SqlFault>
-    ensures made { IfOk result (spec.IsFilled ((text.now, []) ∷ [])) }
-    ensures fault { IfErr result (spec.LacksTable ((text.now, []) ∷ [])) }
+// The rows of a table, or row 0 alone.
+fn rows_of<'t>(table: &'t NamedRows<'_>, has_all: bool) -> &'t [TextRow]
+    ensures { map fields_of result.now ≡ spec.rows_by has_all (map fields_of table.now.rows.items) }
+{
+    if has_all {
+        return table.rows.as_slice();
+    }
+    table.rows.get(..1).unwrap_or(&[])
+}
+
+/// A database with these tables, which have all of their rows, or row 0 alone. No row counts as changed over it.
+pub(crate) fn filled(
+    alloc: Global,
+    tables: &[NamedRows<'_>],
+    has_all: bool,
+) -> Result<Connection<MemStore>, SqlFault>
+    ensures filled { IfOk result (spec.IsFilled (spec.steps_of (spec.with_rows has_all (map spec.table_of tables.now)))) }
+    ensures fault { IfErr result (spec.LacksTable has_all (map spec.table_of tables.now)) }
+    ensures uncounted { IfOk result (λ made. made.changes ≡ 0) }
 {
     let mut connection = Connection::open_in_memory(alloc)?;
-    match run(&mut connection, text, &[]) {
-        Ok(()) => Ok(connection),
-        Err(error) => Err(fault_of(error)),
+    for (number, table) in tables.iter().enumerate() {
+        let rows = rows_of(table, has_all);
+        if rows.is_empty() {
+            return Err(SqlFault::NoRows(number));
+        }
+        if let Err(error) = make(alloc, &mut connection, table.name, rows) {
+            return Err(fault_of(number, error));
+        }
     }
+    if connection.changes() > 0 {
+        return Err(SqlFault::Memory);
+    }
+    Ok(connection)
 }
 
 // Whether an error says that a table is missing.
@@ -152,44 +204,30 @@ fn lacks_table(connection: &mut Connection<MemStore>, query: &str) -> Result<boo
     Ok(is_no_table(error))
 }
 
-/// The name of the table for a query: the given one, or `input` where no table has that name, or the query names another.
-pub(crate) fn name_for<'a>(
-    alloc: Global,
-    name: &'a str,
-    columns: &str,
-    query: &str,
-) -> Result<&'a str, AllocError>
-    ensures { IfOk result (λ called. spec.IsCalledBy ((spec.create_text name.now columns.now, []) ∷ []) name.now query.now called.now) }
+// Whether a query names a table that isn't one of these, or these can't be made.
+fn misses_one(alloc: Global, tables: &[NamedRows<'_>], query: &str) -> Result<bool, SqlFault>
+    ensures misses { IfOk result (spec.Misses (map spec.table_of tables.now) query.now) }
+    ensures fault { IfErr result (spec.LacksNames (map spec.table_of tables.now)) }
 {
-    let text = create_text(alloc, name, columns)?;
-    let mut connection = match created(alloc, text.as_str()) {
+    let mut connection = match filled(alloc, tables, false) {
         Ok(connection) => connection,
-        Err(SqlFault::Columns(_)) => return Ok("input"),
-        Err(_) => return Err(AllocError),
+        Err(SqlFault::Columns { .. }) => return Ok(true),
+        Err(fault) => return Err(fault),
     };
-    let lacks = lacks_table(&mut connection, query)?;
-    if lacks {
-        return Ok("input");
-    }
-    Ok(name)
+    Ok(lacks_table(&mut connection, query)?)
 }
 
-/// A database with a table of these columns, so many, and rows, over which no row counts as changed.
-pub(crate) fn filled(
+/// Gives the tables their names in a query: where it names one that isn't among them, the first is called `input`.
+pub(crate) fn name_for(
     alloc: Global,
-    table: &str,
-    columns: &str,
-    count: usize,
-    records: &[TextRow],
-) -> Result<Connection<MemStore>, SqlFault>
-    ensures filled { IfOk result (spec.IsFilled (spec.filling table.now columns.now count (map fields_of records.now))) }
-    ensures fault { IfErr result (spec.LacksTable (spec.filling table.now columns.now count (map fields_of records.now))) }
-    ensures uncounted { IfOk result (λ made. made.changes ≡ 0) }
+    tables: &mut Vec<NamedRows<'_>>,
+    query: &str,
+) -> Result<(), SqlFault>
+    ensures called { OnOk result (spec.IsCalled (map spec.table_of tables.old.items) query.now (map spec.table_of tables.new.items)) }
+    ensures fault { IfErr result (spec.LacksNames (map spec.table_of tables.old.items)) }
 {
-    let mut connection = created(alloc, create_text(alloc, table, columns)?.as_str())?;
-    match fill(alloc, &mut connection, table, count, records) {
-        Err(error) => Err(fault_of(error)),
-        Ok(()) if connection.changes() > 0 => Err(SqlFault::Memory),
-        Ok(()) => Ok(connection),
+    if misses_one(alloc, tables.as_slice(), query)? && !tables.is_empty() {
+        tables[0].name = "input";
     }
+    Ok(())
 }

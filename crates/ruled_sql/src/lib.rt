@@ -1,4 +1,4 @@
-//! The rows that a query reads from an SQLite database, over a copy of its bytes in memory, or from a table of rows. No
+//! The rows that a query reads from an SQLite database, over a copy of its bytes in memory, or from tables of rows. No
 //! file is opened, locked or changed.
 #![tactic(auto)]
 
@@ -11,5 +11,6 @@ mod rows;
 mod statements;
 
 pub use crate::fault::{QueryFault, Refusal, SqlFault};
+pub use crate::filled::NamedRows;
 pub use crate::lack::Meaning;
-pub use crate::rows::{query_rows, query_table};
+pub use crate::rows::{query_rows, query_tables};

@@ -1,17 +1,17 @@
 //! The rows of an answer, as texts.
 
-ghost use Rattle.std.specs.Prelude.{◌≡◌, ◌≢◌, [], map, Err, IfErr, IfOk, if◌then◌else◌};
+ghost use Rattle.std.specs.Prelude.{◌≡◌, [], map, Err, IfErr, IfOk, if◌then◌else◌};
 ghost use Rattle.csv.specs.Records.{fields_of};
 ghost use Rattle.ruled_database.specs.Tables.{shown_text};
 ghost use Rattle.ruled_sql.specs.Answers.{AreAnswered, HoldsNone, IsFaultOfRow, LacksRows, LacksText, shown_rows};
 ghost use Rattle.ruled_sql.specs.Filled.{AreQueried, LacksQueried, left_by, names_no_table};
-ghost use Rattle.ruled_sql.specs.declared.fault.SqlFault.TheVariants.{Database, NoRows, NoTable, Query};
+ghost use Rattle.ruled_sql.specs.Filled as spec;
+ghost use Rattle.ruled_sql.specs.declared.fault.SqlFault.TheVariants.{Database, NoTable, Query};
 
 use crate::database::{answer_of, open};
 use crate::fault::{QueryFault, SqlFault};
-use crate::filled::{filled, name_for};
+use crate::filled::{NamedRows, filled, name_for};
 use crate::lack::Meaning;
-use crate::statements::columns_text;
 use ruled_database::push_value;
 use ruled_row::{RowBuffer, TextRow};
 use sqlite::{Error, Row};
@@ -98,10 +98,9 @@ pub fn query_rows(
     Ok(rows)
 }
 
-// Why a query of one table has no rows.
+// Why a query of tables has no rows.
 fn fault_of_table(fault: QueryFault) -> SqlFault
-    ensures rows { result ≢ NoRows }
-    ensures fault { result ≡ (if names_no_table fault then NoTable (left_by fault) else Query fault) }
+    ensures { result ≡ (if names_no_table fault then NoTable (left_by fault) else Query fault) }
 {
     match fault {
         QueryFault::Missing(Meaning::Table, left) => SqlFault::NoTable(Some(left)),
@@ -112,30 +111,36 @@ fn fault_of_table(fault: QueryFault) -> SqlFault
     }
 }
 
-/// The rows that a query answers of a table of rows, with the names of its columns as row 0, as those of the columns of the
+// The name of the first table.
+fn first_name<'a>(tables: &[NamedRows<'a>]) -> &'a str
+    ensures { result.now ≡ spec.first_name (map spec.table_of tables.now) }
+{
+    match tables {
+        [first, ..] => first.name,
+        [] => "",
+    }
+}
+
+/// The rows that a query answers of tables of rows, with the names of its columns as row 0, as those of the columns of a
 /// table are.
 ///
-/// The table has this name, or is called `input` where the query names no such table. A column without a name has its
-/// number behind `column`. Values are NULL for empty fields, numbers in a column that has nothing else, and texts in
-/// others. The query is one as for [`query_rows`].
-pub fn query_table(
+/// Each table has its name; where the query names one that isn't among them, the first is called `input`. A column without
+/// a name has its number behind `column`. Values are NULL for empty fields, numbers in a column that has nothing else, and
+/// texts in others. The query is one as for [`query_rows`].
+pub fn query_tables(
     alloc: Global,
-    name: &str,
-    rows: &[TextRow],
+    tables: Vec<NamedRows<'_>>,
     query: &str,
     steps: u64,
     null: &str,
 ) -> Result<Vec<TextRow>, SqlFault>
-    ensures rows { IfOk result (λ answer. AreQueried name.now (map fields_of rows.now) query.now steps null.now (map fields_of answer.items)) }
-    ensures none { result ≡ Err NoRows → rows.now ≡ [] }
-    ensures fault { IfErr result (LacksQueried name.now (map fields_of rows.now) query.now steps) }
+    ensures rows { IfOk result (λ answer. AreQueried (map spec.table_of tables.entry.items) query.now steps null.now (map fields_of answer.items)) }
+    ensures fault { IfErr result (LacksQueried (map spec.table_of tables.entry.items) query.now steps) }
 {
-    let [names, records @ ..] = rows else {
-        return Err(SqlFault::NoRows);
-    };
-    let columns = columns_text(alloc, names, records)?;
-    let called = name_for(alloc, name, columns.as_str(), query)?;
-    let mut connection = filled(alloc, called, columns.as_str(), names.len(), records)?;
+    let name = first_name(&tables);
+    let mut called = tables;
+    name_for(alloc, &mut called, query)?;
+    let mut connection = filled(alloc, &called, true)?;
     let found = match answer_of(&mut connection, name, query, steps) {
         Ok(found) => found,
         Err(fault) => return Err(fault_of_table(fault)),

@@ -1,5 +1,5 @@
-use Rattle.std.proofs.Common.{Err, Some, Option, ap, subst}
-use Rattle.ruled_sql.specs.declared.fault.SqlFault.{SqlFault}
+use Rattle.std.proofs.Common.{ℕ, List, Some, Option, subst}
+use Rattle.ruled_sql.specs.Answers.{LacksRows}
 use Rattle.ruled_io.specs.Input.{LacksAnswer, LacksAnswerOf}
 use Rattle.ruled_io.specs.declared.formats.Known.{Known}
 use Rattle.ruled_io.specs.declared.request.Selection.TheVariants.{Query as Select}
@@ -12,5 +12,6 @@ returns-in_err-query_rows-in-None-clause-cause c =
     let bytes = c.args.bytes.now in
     let found = c.in_err-query_rows-in-None.field-0.0 in
     let lacks : LacksAnswer (Some (Select query)) bytes found =
-    subst (λ (it : Option Known). LacksAnswerOf it query bytes found) c.in-None.ensures (λ none. c.in_err-query_rows-in-None.ensures.none (ap (λ (fault : SqlFault). Err fault) none)) in
+    subst (λ (it : Option Known). LacksAnswerOf it query bytes found) c.in-None.ensures
+    (subst (λ (text : List ℕ). LacksRows bytes text query.steps found) c.as_str-text.ensures.value c.in_err-query_rows-in-None.ensures.fault) in
     of_query (Some (Select query)) bytes found c.from_residual.result lacks c.from_residual.ensures.1

@@ -4,8 +4,7 @@ use Rattle.sqlite.specs.Held.{state}
 use Rattle.sqlite.specs.Listing.{understood}
 use Rattle.sqlite.specs.State.{FailsToQuery, HasCleanDisk}
 use Rattle.ruled_sql.specs.Answers.{IsAnswer, IsChange, LacksAnswer}
-use Rattle.ruled_sql.proofs.Answering.{answers, changed, limited_changes, limited_now, limited_steps}
-use Rattle.ruled_sql.proofs.Refused.{unanswered, understands, unread-text}
+use Rattle.ruled_sql.proofs.Answering.{answers, changed, limited_changes, limited_now, limited_steps, unanswered, understands, unread-text}
 use Rattle.ruled_sql.proofs.database.answer_of.Goals as goal
 
 pub returns-in-Err-clause-fault : goal.returns-in-Err-clause-fault

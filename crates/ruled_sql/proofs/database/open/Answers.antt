@@ -2,8 +2,7 @@ use Rattle.std.proofs.Common.{refl, sym, subst}
 use Rattle.sqlite.specs.Files.{file_state}
 use Rattle.sqlite_disk.specs.Memory.{memory_bytes}
 use Rattle.ruled_sql.specs.Answers.{IsUnopened}
-use Rattle.ruled_sql.proofs.Answering.{found_in, stays_clean}
-use Rattle.ruled_sql.proofs.Refused.{handed, unopened}
+use Rattle.ruled_sql.proofs.Answering.{found_in, stays_clean, handed, unopened}
 use Rattle.ruled_sql.proofs.database.open.Goals as goal
 
 pub returns-in_err-db-clause-fault : goal.returns-in_err-db-clause-fault

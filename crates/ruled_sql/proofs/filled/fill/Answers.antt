@@ -6,7 +6,7 @@ use Rattle.sqlite.specs.declared.error.Error.{Error}
 use Rattle.ruled_sql.specs.Answers.{is_memory}
 use Rattle.ruled_sql.specs.Filled.{AreCut, AreRun, IsRun, IsStuck, fillings, insert_text, insertions, settle_text}
 use Rattle.ruled_sql.proofs.Filling.{cut-behind, cut-front, settled}
-use Rattle.ruled_sql.proofs.Refused.{handed, lost}
+use Rattle.ruled_sql.proofs.Answering.{handed, lost}
 use Rattle.ruled_sql.proofs.filled.fill.Goals as goal
 
 pub returns-clause-runs : goal.returns-clause-runs

@@ -1,36 +1,34 @@
-use Rattle.std.proofs.Common.{◌≡◌, ◌∙◌, ◌∷◌, [], ℕ, List, map, subst}
-use Rattle.csv.specs.Records.{fields_of}
-use Rattle.ruled_sql.specs.Filled.{IsFilled, LacksTable, create_text, filling, fillings}
-use Rattle.ruled_sql.proofs.Filling.{filled-by, unfilled-by, unmade}
-use Rattle.ruled_sql.proofs.Refused.{handed}
+use Rattle.std.proofs.Common.{◌≡◌, ◌≤◌, List, ℕ, length, refl, subst, arith}
+use Rattle.std.proofs.lemmas.Bool.Decides.{nat_tests}
+use Rattle.ruled_sql.specs.Filled.{AreCut, AreRun, steps}
+use Rattle.ruled_sql.proofs.Filling.{made-all, made-more, not-made, ok-runs, rowless}
 use Rattle.ruled_sql.proofs.filled.filled.Goals as goal
 
-pub returns-in_err-connection-clause-fault : goal.returns-in_err-connection-clause-fault
-returns-in_err-connection-clause-fault c =
-    let table = c.args.table.now in
-    let columns = c.args.columns.now in
-    let records = map fields_of c.args.records.now in
-    let fault = c.in_err-connection.field-0.0 in
-    let create : c.as_str.result.now ≡ create_text table columns = c.as_str.ensures.value ∙ c.in_ok-create_text.ensures in
-    handed (LacksTable (filling table columns c.args.count records)) c.from_residual-in_err-connection.result fault c.from_residual-in_err-connection.ensures.1
-    (unmade (create_text table columns, []) (fillings table c.args.count records) fault (subst (λ (text : List ℕ). LacksTable ((text, []) ∷ []) fault) create c.in_err-connection.ensures.fault))
+pub loop-number-init : goal.loop-number-init
+loop-number-init c = (c.in_ok-connection.connection, record { empty = c.in_ok-connection.ensures.empty; new = c.in_ok-connection.ensures.fresh }, refl)
+
+pub returns-then-is_empty-clause-fault : goal.returns-then-is_empty-clause-fault
+returns-then-is_empty-clause-fault c =
+    let rows = c.rows_of-rows.result.now in
+    let none : length rows ≡ 0 = grind (arith, nat_tests, c.is_empty.ensures, c.if-is_empty.true) in
+    rowless c.args.has_all c.args.tables.now c.loop-number.number c.index-tables-number.result c.loop-number-test.true c.index-tables-number.is rows c.rows_of-rows.ensures none
 
 pub returns-in-Err-clause-fault : goal.returns-in-Err-clause-fault
 returns-in-Err-clause-fault c =
-    let table = c.args.table.now in
-    let columns = c.args.columns.now in
-    let records = map fields_of c.args.records.now in
-    let made = c.in_ok-connection.connection in
-    let create : c.as_str.result.now ≡ create_text table columns = c.as_str.ensures.value ∙ c.in_ok-create_text.ensures in
-    unfilled-by (create_text table columns, []) (fillings table c.args.count records) made (subst (λ (text : List ℕ). IsFilled ((text, []) ∷ []) made) create c.in_ok-connection.ensures.made)
-    c.in-Err.error c.fault_of.result c.fault_of.ensures c.in-Err.ensures.fails
+    let table = c.index-tables-number.result in
+    let old = c.loop-number.connection in
+    not-made c.args.has_all c.args.tables.now c.loop-number.number table c.loop-number-test.true c.index-tables-number.is old c.loop-number.invariant c.in-Err.error c.fault_of.result c.fault_of.ensures
+    (λ sound. subst (λ (rows : List (List (List ℕ))). AreCut (steps table.name.now rows) old c.in-Err.error) c.rows_of-rows.ensures (c.in-Err.ensures.fails sound))
 
-pub returns-in-Ok-2-clause-filled : goal.returns-in-Ok-2-clause-filled
-returns-in-Ok-2-clause-filled c =
-    let table = c.args.table.now in
-    let columns = c.args.columns.now in
-    let records = map fields_of c.args.records.now in
-    let made = c.in_ok-connection.connection in
-    let create : c.as_str.result.now ≡ create_text table columns = c.as_str.ensures.value ∙ c.in_ok-create_text.ensures in
-    filled-by (create_text table columns, []) (fillings table c.args.count records) made c.fill.new.connection (subst (λ (text : List ℕ). IsFilled ((text, []) ∷ []) made) create c.in_ok-connection.ensures.made)
-    c.in-Ok.ensures.runs
+pub loop-number-preserved : goal.loop-number-preserved
+loop-number-preserved c =
+    let table = c.index-tables-number.result in
+    let old = c.loop-number.connection in
+    let new = c.make.new.connection in
+    made-more c.args.has_all c.args.tables.now c.loop-number.number table c.loop-number-test.true c.index-tables-number.is old c.loop-number.invariant new
+    (subst (λ (rows : List (List (List ℕ))). AreRun (steps table.name.now rows) old new) c.rows_of-rows.ensures (ok-runs c.make.result _ c.in_default.not-Err c.make.ensures.runs))
+
+pub returns-clause-filled : goal.returns-clause-filled
+returns-clause-filled c =
+    let past : length c.args.tables.now ≤ c.loop-number.number = omega (arith, c.loop-number-test.false) in
+    made-all c.args.has_all c.args.tables.now c.loop-number.number past c.loop-number.connection c.loop-number.invariant

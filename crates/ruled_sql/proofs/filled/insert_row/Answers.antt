@@ -7,7 +7,7 @@ use Rattle.sqlite.specs.Values.{bound}
 use Rattle.sqlite.specs.declared.error.Error.{Error}
 use Rattle.ruled_sql.specs.Answers.{is_memory}
 use Rattle.ruled_sql.specs.Filled.{IsRun, IsStuck, values_of}
-use Rattle.ruled_sql.proofs.Refused.{lost}
+use Rattle.ruled_sql.proofs.Answering.{lost}
 use Rattle.ruled_sql.proofs.filled.insert_row.Goals as goal
 
 pub returns-in_err-values-clause-fails : goal.returns-in_err-values-clause-fails

@@ -5,7 +5,7 @@ use Rattle.ruled_sql.specs.Filled.{AreCut, AreRun, insertions}
 use Rattle.ruled_sql.specs.Answers.{is_memory}
 use Rattle.sqlite.specs.declared.error.Error.{Error}
 use Rattle.ruled_sql.proofs.Filling.{cut-more, run-more}
-use Rattle.ruled_sql.proofs.Refused.{handed}
+use Rattle.ruled_sql.proofs.Answering.{handed}
 use Rattle.ruled_sql.proofs.filled.insert_rows.Goals as goal
 
 pub loop-fields-preserved : goal.loop-fields-preserved

@@ -4,7 +4,7 @@ use Rattle.sqlite.specs.Held.{state}
 use Rattle.sqlite.specs.Listing.{understood}
 use Rattle.sqlite.specs.Steps.{over_memory}
 use Rattle.ruled_sql.specs.Answers.{is_memory}
-use Rattle.ruled_sql.proofs.Refused.{has-tables, lacks-table}
+use Rattle.ruled_sql.proofs.Answering.{has-tables, lacks-table}
 use Rattle.ruled_sql.proofs.filled.lacks_table.Goals as goal
 
 pub returns-in-Ok : goal.returns-in-Ok

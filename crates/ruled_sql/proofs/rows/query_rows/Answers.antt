@@ -2,8 +2,7 @@ use Rattle.std.proofs.Common.{◌≡◌, refl, subst, rules}
 use Rattle.sqlite.specs.Files.{file_state}
 use Rattle.ruled_sql.specs.Answers.{IsUnopened, LacksRows}
 use Rattle.ruled_sql.specs.declared.fault.SqlFault.TheVariants.{Database, Query}
-use Rattle.ruled_sql.proofs.Answering.{held, stays_clean}
-use Rattle.ruled_sql.proofs.Refused.{handed, handed_on, unopened-lacks, unshown-lacks}
+use Rattle.ruled_sql.proofs.Answering.{held, stays_clean, handed, handed_on, unopened-lacks, unshown-lacks}
 use Rattle.ruled_sql.proofs.rows.query_rows.Goals as goal
 
 pub returns-in_err-connection-clause-none : goal.returns-in_err-connection-clause-none

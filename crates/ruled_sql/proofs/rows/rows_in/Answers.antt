@@ -1,7 +1,6 @@
 use Rattle.std.proofs.Common.{◌∙◌, [], refl, arith}
 use Rattle.ruled_sql.specs.Answers.{LacksText, shown_rows}
-use Rattle.ruled_sql.proofs.Answering.{row-at, row_more}
-use Rattle.ruled_sql.proofs.Refused.{handed, row-lacks}
+use Rattle.ruled_sql.proofs.Answering.{row-at, row_more, handed, row-lacks}
 use Rattle.ruled_sql.proofs.rows.rows_in.Goals as goal
 
 pub loop-values-preserved : goal.loop-values-preserved
