@@ -1,11 +1,11 @@
 -- The table of records: members by their names, and rows whose columns grow behind them.
-use Rattle.std.proofs.Common.{◌≡◌, ◌∙◌, ◌∷◌, ◌++◌, ◌+◌, ◌-◌, ◌≤◌, ◌&&◌, ◌||◌, ℕ, List, [], All, Bool, true, false, Option, None, Some, map, fold, length, replicate, inl, inr, arith, subst, refl, sym, ap, cond, zero-add, ◌<◌, take, get_or, Global, String, string_bytes, option_map}
-use Rattle.std.specs.List.{flat_map, list_all, list_any}
+use Rattle.std.proofs.Common.{◌≡◌, ◌∙◌, ◌∷◌, ◌++◌, ◌+◌, ◌-◌, ◌≤◌, ◌&&◌, ◌||◌, ℕ, List, [], All, Bool, true, false, Option, None, Some, map, fold, length, replicate, inl, inr, arith, subst, refl, sym, ap, cond, zero-add, suc, ◌<◌, take, get_or, Global, String, string_bytes, option_map}
+use Rattle.std.specs.List.{flat_map, list_all, list_any, AllByRecursion, IsDistinct}
 use Rattle.std.specs.Str.{bytes_eq}
 use Rattle.std.proofs.lemmas.Bool.{and_parts, cases_Bool}
 use Rattle.std.proofs.lemmas.List.{append_assoc, append-nil, length-append, length-map, length-replicate, map-append, replicate-append-replicate, take_all, take_more, take-append-le}
 use Rattle.std.proofs.lemmas.List.Elements.{All-cons, All-head, All-nil, All-tail}
-use Rattle.std.proofs.lemmas.List.Folds.{list_all-append, list_any-append, list_all-map}
+use Rattle.std.proofs.lemmas.List.Folds.{list_all-append, list_any-append, list_any_at, list_all-map}
 use Rattle.std.proofs.lemmas.Slice.Eq.{bytes_eq-Decides}
 use Rattle.json.specs.Find.{get, get_member, later_or}
 use Rattle.json.specs.Json.{Json, null, boolean, number, string, array, object, Members, no_members, member}
@@ -263,6 +263,107 @@ named_next {A} ms i m name v old new within is same put before =
     ∙ ap (λ (w : Value A). cond (bytes_eq m.0.now name) (Some (value_view w)) (option_map (λ (x : Bor (Value A)). value_view x.now) old)) same
     ∙ ap (λ (found : Option Json). cond (bytes_eq m.0.now name) (Some (value_view m.1)) found) before
     ∙ sym (ap (λ (list : List (Bor (List ℕ) × Value A)). get_member name (members_view list)) (take_next ms i m within is) ∙ last_member (take i ms) m name)
+
+-- ---- members that are named as the columns are, in their order
+
+abbrev Apart : List ℕ → List (List ℕ) → Type 0
+Apart name [] = Unit {0}
+Apart name (other ∷ others) = (bytes_eq name other ≡ false) × Apart name others
+
+-- no two names are equal
+abbrev pub AreDistinct : List (List ℕ) → Type 0
+AreDistinct [] = Unit {0}
+AreDistinct (name ∷ names) = Apart name names × AreDistinct names
+
+apart : {Z : Type 0} (text : String Z) (texts : List (String Z)) → AllByRecursion (λ (other : String Z). bytes_eq (string_bytes text) (string_bytes other) ≡ false) texts → Apart (string_bytes text) (map string_bytes texts)
+apart text [] h = tt
+apart text (other ∷ others) h = (h.0, apart text others h.1)
+
+pub distinct-names : {Z : Type 0} (texts : List (String Z)) → IsDistinct (λ (a : String Z) (b : String Z). bytes_eq (string_bytes a) (string_bytes b)) texts → AreDistinct (map string_bytes texts)
+unfolding IsDistinct
+distinct-names [] h = tt
+distinct-names (text ∷ texts) h = (apart text texts h.0, distinct-names texts h.1)
+
+other-name : (a b : List ℕ) → bytes_eq a b ≡ false → bytes_eq b a ≡ false
+other-name a b h = elim (cases_Bool (bytes_eq b a)) [
+  | inl same ↦ let is : b ≡ a = (bytes_eq-Decides b a).0 same in let yes : bytes_eq a b ≡ true = (bytes_eq-Decides a b).1 (sym is) in cc
+  | inr other ↦ other
+]
+
+later-none : (found : Option Json) → later_or found None ≡ found
+later-none None = refl
+later-none (Some j) = refl
+
+module _ {A : Type 0} where
+  abbrev names_of : List (Bor (List ℕ) × Value A) → List (List ℕ)
+  names_of ms = map (λ m. m.0.now) ms
+
+  no_member : (name : List ℕ) (ms : List (Bor (List ℕ) × Value A)) → Apart name (names_of ms) → get_member name (members_view ms) ≡ None
+  no_member name [] h = refl
+  no_member name (m ∷ ms) h =
+      ap (λ (found : Option Json). later_or found (cond (bytes_eq m.0.now name) (Some (value_view m.1)) None)) (no_member name ms h.1)
+      ∙ ap (λ (b : Bool). cond b (Some (value_view m.1)) None) (other-name name m.0.now h.0)
+
+  -- those behind a member stay the same
+  behind : (word : List ℕ) (m : Bor (List ℕ) × Value A) (ms : List (Bor (List ℕ) × Value A)) (columns : List (List ℕ)) → Apart m.0.now columns
+      → map (λ column. cell_text word (get_member column (members_view ms))) columns ≡ map (λ column. cell_text word (get_member column (members_view (m ∷ ms)))) columns
+  behind word m ms [] h = refl
+  behind word m ms (column ∷ columns) h =
+      let same : get_member column (members_view (m ∷ ms)) ≡ get_member column (members_view ms) =
+      ap (λ (b : Bool). later_or (get_member column (members_view ms)) (cond b (Some (value_view m.1)) None)) h.0 ∙ later-none (get_member column (members_view ms)) in
+      ap (λ (found : Option Json). cell_text word found ∷ map (λ c. cell_text word (get_member c (members_view ms))) columns) (sym same)
+      ∙ ap (λ (cells : List (List ℕ)). cell_text word (get_member column (members_view (m ∷ ms))) ∷ cells) (behind word m ms columns h.1)
+
+  in-order : (word : List ℕ) (ms : List (Bor (List ℕ) × Value A)) → AreDistinct (names_of ms)
+      → map (λ m. cell_text word (Some (value_view m.1))) ms ≡ map (λ column. cell_text word (get_member column (members_view ms))) (names_of ms)
+  in-order word [] h = refl
+  in-order word (m ∷ ms) h =
+      let own : get_member m.0.now (members_view (m ∷ ms)) ≡ Some (value_view m.1) =
+      ap (λ (found : Option Json). later_or found (cond (bytes_eq m.0.now m.0.now) (Some (value_view m.1)) None)) (no_member m.0.now ms h.0)
+      ∙ ap (λ (b : Bool). cond b (Some (value_view m.1)) None) ((bytes_eq-Decides m.0.now m.0.now).1 refl) in
+      ap (λ (cells : List (List ℕ)). cell_text word (Some (value_view m.1)) ∷ cells) (in-order word ms h.1 ∙ behind word m ms (names_of ms) h.0)
+      ∙ ap (λ (found : Option Json). cell_text word found ∷ map (λ column. cell_text word (get_member column (members_view (m ∷ ms)))) (names_of ms)) (sym own)
+
+  -- the row of their value
+  pub ordered-row : (word : List ℕ) (columns : List (List ℕ)) (value : Json) (ms : List (Bor (List ℕ) × Value A)) → names_of ms ≡ columns → AreDistinct columns
+      → ((name : List ℕ) → get_member name (members_view ms) ≡ get name value) → map (λ m. cell_text word (Some (value_view m.1))) ms ≡ row_of word columns value
+  ordered-row word columns value ms named distinct found =
+      in-order word ms (subst AreDistinct (sym named) distinct)
+      ∙ (λ i. map (λ column. cell_text word (found column i)) (names_of ms))
+      ∙ ap (map (λ column. cell_text word (get column value))) named
+
+  -- the name of one member more
+  pub name-next : {Z : Type 0} (ms : List (Bor (List ℕ) × Value A)) (names : List (String Z)) (i : ℕ) (m : Bor (List ℕ) × Value A) (name : String Z) (text : List ℕ) (b : Bool)
+      → i < length ms → m ≡ get_or ms i m → i < length names → name ≡ get_or names i name → text ≡ string_bytes name → b ≡ bytes_eq m.0.now text → b ≡ true
+      → names_of (take i ms) ≡ map string_bytes (take i names) → names_of (take (i + 1) ms) ≡ map string_bytes (take (i + 1) names)
+  name-next {Z} ms names i m name text b within is among at same found holds before =
+      let equal : m.0.now ≡ string_bytes name = (bytes_eq-Decides m.0.now text).0 (sym found ∙ holds) ∙ same in
+      map_next (λ (n : Bor (List ℕ) × Value A). n.0.now) ms i m within is
+      ∙ ap (λ (ns : List (List ℕ)). ns ++ m.0.now ∷ []) before ∙ ap (λ (n : List ℕ). map string_bytes (take i names) ++ n ∷ []) equal
+      ∙ sym (map_next string_bytes names i name among at)
+
+  -- the row of a record whose members have these names
+  pub whole-ordered : {Z : Type 0} (word : List ℕ) (names items : List (String Z)) (value : Json) (ms : List (Bor (List ℕ) × Value A)) (n : ℕ) (row : List (List ℕ))
+      → items ≡ names → length ms ≤ n → length items ≤ n → IsDistinct (λ (a : String Z) (b : String Z). bytes_eq (string_bytes a) (string_bytes b)) names
+      → names_of (take n ms) ≡ map string_bytes (take n items) → row ≡ map (λ m. cell_text word (Some (value_view m.1))) (take n ms)
+      → ((name : List ℕ) → get_member name (members_view ms) ≡ get name value) → row ≡ row_of word (map string_bytes names) value
+  whole-ordered {Z} word names items value ms n row same all each distinct named made found =
+      let whole : names_of ms ≡ map string_bytes names =
+      ap names_of (sym (take_all n ms all)) ∙ named ∙ ap (map string_bytes) (take_all n items each ∙ same) in
+      made ∙ ap (map (λ (m : Bor (List ℕ) × Value A). cell_text word (Some (value_view m.1)))) (take_all n ms all)
+      ∙ ordered-row word (map string_bytes names) value ms whole (distinct-names names distinct) found
+
+-- columns that are there add none
+all-there : (all names : List (List ℕ)) → ((k : ℕ) → k < length names → list_any (bytes_eq (get_or names k [])) all ≡ true) → fold with_name all names ≡ all
+all-there all [] h = refl
+all-there all (name ∷ names) h =
+    ap (λ (columns : List (List ℕ)). fold with_name columns names) (let there = h 0 (omega arith) in rw there refl) ∙ all-there all names (λ k within. h (suc k) (omega (arith, within)))
+
+among-own : (names : List (List ℕ)) (k : ℕ) → k < length names → list_any (bytes_eq (get_or names k [])) names ≡ true
+among-own names k within = list_any_at (bytes_eq (get_or names k [])) names k [] within ((bytes_eq-Decides (get_or names k []) (get_or names k [])).1 refl)
+
+pub own_columns : (columns names : List (List ℕ)) → names ≡ columns → columns ≡ fold with_name columns names
+own_columns columns names same = sym (ap (fold with_name columns) same ∙ all-there columns columns (among-own columns))
 
 -- ---- the table of records, one record more
 

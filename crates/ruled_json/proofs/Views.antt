@@ -53,6 +53,10 @@ pub among : {Z : Type 0} (name : List ℕ) (texts : List (String Z))
 among name [] = refl
 among name (text ∷ texts) = ap (λ (b : Bool). bytes_eq name (string_bytes text) || b) (among name texts)
 
+pub has_named : {Z : Type 0} (b : Bool) (name : List ℕ) (texts : List (String Z))
+    → b ≡ list_any (λ (text : String Z). bytes_eq name (string_bytes text)) texts → b ≡ list_any (bytes_eq name) (map string_bytes texts)
+has_named b name texts is = is ∙ among name texts
+
 -- a text is added as its name is
 added : {Z : Type 0} (texts : List (String Z)) (text : String Z) → map string_bytes (insert_key string_eq texts text) ≡ with_name (map string_bytes texts) (string_bytes text)
 added {Z} texts text = elim (cases_Bool (list_any (bytes_eq (string_bytes text)) (map string_bytes texts))) [

@@ -89,8 +89,7 @@ impl LineTable {
         ensures columns { OnOk result (columns_in self.new ≡ fold with_name (columns_in self.old) (names_in (value_view value.now))) }
         ensures held { OnOk result (map fields_of self.new.held.items ≡ map fields_of self.old.held.items ++ row_of (string_bytes self.old.null) (columns_in self.new) (value_view value.now) ∷ []) }
     {
-        self.names.add_record(self.alloc, value)?;
-        let row = self.names.row(self.alloc, self.null.as_str(), value)?;
+        let row = self.names.add_row(self.alloc, self.null.as_str(), value)?;
         self.held.push(row)?;
         Ok(())
     }

@@ -7,7 +7,7 @@ ghost use Rattle.std.specs.Str.{bytes_eq};
 ghost use Rattle.csv.specs.Records.{fields_of};
 ghost use Rattle.indexmap.specs.IndexMap.{get_by};
 ghost use Rattle.json.specs.Find.{get, get_member};
-ghost use Rattle.json.specs.Tree.{HasNumbers};
+ghost use Rattle.json.specs.Tree.{HasNumbers, MembersHaveNumbers};
 ghost use Rattle.json.specs.Value.{members_view, value_view};
 ghost use Rattle.ruled_json.specs.Streamed.{padded};
 ghost use Rattle.ruled_json.specs.Rows.{cell_text, has_all, names_in, plain_rules, row_of, rules_of, with_name};
@@ -28,6 +28,7 @@ const CELL: usize = 12;
 fn members_of<'v, 'a>(value: &'v Value<'a>) -> &'v [(&'a str, Value<'a>)]
     ensures names { map (λ m. m.0.now) result.now ≡ names_in (value_view value.now) }
     ensures members { (name : List ℕ) → get_member name (members_view result.now) ≡ get name (value_view value.now) }
+    ensures numbers { HasNumbers (value_view value.now) → MembersHaveNumbers (members_view result.now) }
 {
     match value {
         Value::Object(members) => members.as_slice(),
@@ -136,6 +137,7 @@ impl MemberNames {
     }
 
     // Whether there is a column of this name.
+    #[tactic(auto, using(crate::proofs::Views::has_named))]
     fn has(&self, name: &str) -> bool
         ensures { result ≡ list_any (bytes_eq name.now) (map string_bytes self.now.names.keys) }
     {
@@ -220,6 +222,7 @@ impl MemberNames {
     }
 
     /// The header.
+    #[tactic(auto, using(crate::proofs::Tables::made_next))]
     pub(crate) fn header(&self, alloc: Global) -> Result<TextRow, AllocError>
         ensures { IfOk result (λ row. fields_of row ≡ map string_bytes self.now.names.keys) }
     {
@@ -236,6 +239,31 @@ impl MemberNames {
     {
         let count = self.names.len();
         TextRow::with_capacity(alloc, count.saturating_mul(CELL))
+    }
+
+    // The row of a record whose members are the columns, in their order, as in most lines: no member is searched.
+    fn ordered_row(
+        &self,
+        alloc: Global,
+        null: &str,
+        value: &Value<'_>,
+    ) -> Result<Option<TextRow>, AllocError>
+        requires numbers { HasNumbers (value_view value.now) }
+        ensures names { IfOk result (λ found. IfSome found (λ _. names_in (value_view value.now) ≡ map string_bytes self.now.names.keys)) }
+        ensures row { IfOk result (λ found. IfSome found (λ row. fields_of row ≡ row_of null.now (map string_bytes self.now.names.keys) (value_view value.now))) }
+    {
+        let (names, members) = (self.names.as_slice(), members_of(value));
+        if members.len() != names.len() {
+            return Ok(None);
+        }
+        let mut row = self.empty_row(alloc)?;
+        for (at, member) in members.iter().enumerate() {
+            if !is_text(member.0, names[at].as_str()) {
+                return Ok(None);
+            }
+            push_cell(alloc, &mut row, null, Some(&member.1))?;
+        }
+        Ok(Some(row))
     }
 
     // The row of a record of few columns.
@@ -278,11 +306,33 @@ impl MemberNames {
         requires numbers { HasNumbers (value_view value.now) }
         ensures { IfOk result (λ row. fields_of row ≡ row_of null.now (map string_bytes self.now.names.keys) (value_view value.now)) }
     {
+        if let Some(row) = self.ordered_row(alloc, null, value)? {
+            return Ok(row);
+        }
         if self.names.len() <= NARROW {
             self.narrow_row(alloc, null, value)
         } else {
             self.wide_row(alloc, null, value)
         }
+    }
+
+    /// Adds the columns of a record that aren't there yet, and returns its row, with this text for null.
+    #[tactic(auto, using(crate::proofs::Tables::own_columns))]
+    pub(crate) fn add_row(
+        &mut self,
+        alloc: Global,
+        null: &str,
+        value: &Value<'_>,
+    ) -> Result<TextRow, AllocError>
+        requires numbers { HasNumbers (value_view value.now) }
+        ensures columns { OnOk result (map string_bytes self.new.names.keys ≡ fold with_name (map string_bytes self.old.names.keys) (names_in (value_view value.now))) }
+        ensures row { IfOk result (λ row. fields_of row ≡ row_of null.now (map string_bytes self.new.names.keys) (value_view value.now)) }
+    {
+        if let Some(row) = self.ordered_row(alloc, null, value)? {
+            return Ok(row);
+        }
+        self.add_record(alloc, value)?;
+        self.row(alloc, null, value)
     }
 
     /// The row, with empty cells in the columns after its own.
