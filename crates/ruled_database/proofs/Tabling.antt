@@ -1,26 +1,28 @@
--- What has been read of one part, and then of the next, has been read of both; so of the parts of a page, of the rows of a table; and why it isn't shown.
+-- What has been read of one part, and then of the next, has been read of both; the steps of a tree; the rows of a table; and why it isn't shown.
 use Rattle.std.proofs.Common.{◌≡◌, ◌<◌, ◌∙◌, ◌+◌, ◌++◌, ◌∷◌, ℕ, List, [], map, take, drop, get_or, length, Option, Some, None, Result, Ok, Err, inl, inr, refl, sym, ap, ap₂, subst, zero-add}
-use Rattle.std.proofs.Common.{add-zero, add_assoc, append_assoc, arith, ◌-◌, suc, zero, ◌≤◌, subst₂}
-use Rattle.std.specs.List.{range_with_len}
-use Rattle.std.proofs.lemmas.List.{take-append-drop, take_more, map-append, append-nil, get_or-map, length-map, map_more}
-use Rattle.std.proofs.lemmas.List.FromFn.{map-range_with_len_more, take-map-range_with_len}
-use Rattle.ruled_database.specs.Trees.{Read, all, both, given, joined, damaged, one_page, where_some, Gives, GivesPage, Stored, chain, own_row, page_at, rows_at, rows_below, rows_of_cell}
-use Rattle.ruled_database.specs.Trees.{rows_of_child, rows_of_page, record_of}
+use Rattle.std.proofs.Common.{add-zero, add_assoc, append_assoc, arith, ◌-◌, suc, zero, ◌≤◌, subst₂, Bool, true, false}
+use Rattle.std.specs.List.{flat_map, range_with_len}
+use Rattle.std.proofs.lemmas.List.{map-append, append-nil, map_more}
+use Rattle.ruled_database.specs.Trees.{Read, all, both, given, joined, damaged, one_page, where_some, Gives, GivesPage, Stored, chain, record_of}
+use Rattle.ruled_database.specs.Trees.{LacksRow, Step, a_page, first_of, own_row, page_at, row_step, rows_at, rows_below, rows_from, rows_of_cell, rows_of_child, sound_rows, steps_in, steps_of, steps_of_all, stored_of, with_row}
+use Rattle.ruled_database.specs.declared.tree.StoredRow.{StoredRow}
+use Rattle.ruled_database.specs.declared.tree.Level.{Level}
 use Rattle.ruled_database.specs.declared.fault.TableFault.{TableFault}
 use Rattle.ruled_database.specs.declared.fault.TableFault.TheVariants.{Damage, Default, Encoding, Memory}
+use Rattle.std.proofs.Math.Dec.{leb-suc-suc}
 use Rattle.std.proofs.Math.Numerals.{add-one}
 use Rattle.std.proofs.lemmas.Bool.Decides.{nat_tests}
-use Rattle.std.specs.Prelude.{◌==◌, ◌≢◌, if◌then◌else◌, slice_index_or, IfErr}
+use Rattle.std.specs.Prelude.{◌==◌, ◌≢◌, if◌then◌else◌, slice_index_or, nat_le, Any, IfErr, IfOk}
 use Rattle.std.specs.Result.{IsErrAnd}
 use Rattle.sqlite_format.specs.Bytes.{u32_at}
-use Rattle.sqlite_format.specs.Cell.{cell_child}
 use Rattle.sqlite_format.specs.Page.{cell_count, right_child}
 use Rattle.sqlite_format.specs.declared.kind.Tree.{Tree}
-use Rattle.ruled_database.specs.Files.{TreePage, cell_at, page, page_count}
+use Rattle.ruled_database.specs.Files.{TreePage, cell_at, page, page_count, page_of}
+use Rattle.sqlite_format.specs.Cell.{cell_child}
 use Rattle.std.specs.Option.{option_and_then}
 use Rattle.sqlite_record.specs.Affinity.{widen}
 use Rattle.sqlite_value.specs.Order.{Row}
-use Rattle.ruled_database.specs.Tables.{LacksTexts, AddsRows, GivesRow, IsUnsound, Walks, most_levels, row_in, shown_row, shown_rows_of, texts_in, values_of, names_in}
+use Rattle.ruled_database.specs.Tables.{LacksTexts, AddsRows, GivesRow, HasWrongText, IsOld, IsUnsound, row_in, shown_row, shown_rows_of, texts_in, tree_rows, values_of, names_in}
 use Rattle.ruled_database.specs.declared.definition.Definition.{Definition}
 use Rattle.ruled_database.specs.Listings.{Entry, HasWrongEntry, IsListed, IsWrongEntry, LacksDefinition, LacksEntries, LacksEntry, LacksListing, LacksRows, LacksSchema, LacksTable}
 use Rattle.ruled_database.specs.Listings.{definition_with, entry_in, fields_of_entry}
@@ -95,57 +97,6 @@ gives_nothing n old = ([], refl, sym (append-nil old), sym (add-zero n))
 pub gives_given : {X U : Type 0} (items : List X) (n : ℕ) (old new : List X) (x : U) → new ≡ old ++ items → Gives (given items) n n old new (Ok x)
 gives_given items n old new x is = (items, refl, is, sym (add-zero n))
 
--- ---- parts in turn
-
-all_more : {X : Type 0} (f : ℕ → Read (List X)) (i : ℕ) → all (map f (range_with_len 0 (i + 1))) ≡ both (all (map f (range_with_len 0 i))) (f i)
-all_more f i =
-    ap all (map-range_with_len_more f 0 i i (zero-add i))
-    ∙ all-append (map f (range_with_len 0 i)) (f i ∷ [])
-    ∙ ap (both (all (map f (range_with_len 0 i)))) (both_nothing (f i))
-
--- one part more
-pub gives_more : {X U V : Type 0} (f : ℕ → Read (List X)) (i n m k : ℕ) (old mid new : List X) (x : U) (y : V) → Gives (all (map f (range_with_len 0 i))) n m old mid (Ok x) → Gives (f i) m k mid new (Ok y)
-    → Gives (all (map f (range_with_len 0 (i + 1)))) n k old new (Ok y)
-gives_more {X} {U} {V} f i n m k old mid new x y before here =
-    subst (λ (read : Read (List X)). Gives {U = V} read n k old new (Ok y)) (sym (all_more f i)) (gives_both (all (map f (range_with_len 0 i))) (f i) n m k old mid new x (Ok y) before here)
-
--- a part that fails, of so many
-pub gives_less : {X U : Type 0} (V : Type 0) (f : ℕ → Read (List X)) (i count n m k : ℕ) (old mid new : List X) (x : U) (fault : TableFault) → i < count → Gives (all (map f (range_with_len 0 i))) n m old mid (Ok x)
-    → Gives {U = V} (f i) m k mid new (Err fault) → Gives {U = V} (all (map f (range_with_len 0 count))) n k old new (Err fault)
-gives_less {X} V f i count n m k old mid new x fault within before fails =
-    let parts = map f (range_with_len 0 count) in
-    let first : all (map f (range_with_len 0 (i + 1))) ≡ both (all (map f (range_with_len 0 i))) (f i) = all_more f i in
-    let split : all parts ≡ both (all (take (i + 1) parts)) (all (drop (i + 1) parts)) = sym (ap all (take-append-drop (i + 1) parts)) ∙ all-append (take (i + 1) parts) (drop (i + 1) parts) in
-    let front : all (take (i + 1) parts) ≡ both (all (map f (range_with_len 0 i))) (f i) = ap all (take-map-range_with_len f 0 count (i + 1) (omega arith)) ∙ first in
-    let here : Gives {U = V} (both (all (map f (range_with_len 0 i))) (f i)) n k old new (Err fault) = gives_both {V = V} (all (map f (range_with_len 0 i))) (f i) n m k old mid new x (Err fault) before fails in
-    let fronts : Gives {U = V} (all (take (i + 1) parts)) n k old new (Err fault) = subst (λ (read : Read (List X)). Gives {U = V} read n k old new (Err fault)) (sym front) here in
-    subst (λ (read : Read (List X)). Gives {U = V} read n k old new (Err fault)) (sym split) (gives_fault V V (all (take (i + 1) parts)) (all (drop (i + 1) parts)) n k old new fault fronts)
-
-next_part : {X Y : Type 0} (f : Y → Read (List X)) (xs : List Y) (i : ℕ) (x none : Y) → i < length xs → x ≡ get_or xs i none → all (map f (take (i + 1) xs)) ≡ both (all (map f (take i xs))) (f x)
-next_part {X} {Y} f xs i x none within is =
-    ap (λ (ys : List Y). all (map f ys)) (take_more xs i none within)
-    ∙ ap all (map-append f (take i xs) (get_or xs i none ∷ []))
-    ∙ all-append (map f (take i xs)) (f (get_or xs i none) ∷ [])
-    ∙ ap (both (all (map f (take i xs)))) (both_nothing (f (get_or xs i none)) ∙ ap f (sym is))
-
--- one part more of a list
-pub gives_next : {X Y U V : Type 0} (f : Y → Read (List X)) (xs : List Y) (i : ℕ) (x none : Y) (n m k : ℕ) (old mid new : List X) (u : U) (v : V) → i < length xs → x ≡ get_or xs i none
-    → Gives (all (map f (take i xs))) n m old mid (Ok u) → Gives (f x) m k mid new (Ok v) → Gives (all (map f (take (i + 1) xs))) n k old new (Ok v)
-gives_next {X} {Y} {U} {V} f xs i x none n m k old mid new u v within is before here =
-    subst (λ (read : Read (List X)). Gives {U = V} read n k old new (Ok v)) (sym (next_part f xs i x none within is)) (gives_both (all (map f (take i xs))) (f x) n m k old mid new u (Ok v) before here)
-
--- one that fails
-pub gives_last : {X Y U : Type 0} (V : Type 0) (f : Y → Read (List X)) (xs : List Y) (i : ℕ) (x none : Y) (n m k : ℕ) (old mid new : List X) (u : U) (fault : TableFault) → i < length xs → x ≡ get_or xs i none
-    → Gives (all (map f (take i xs))) n m old mid (Ok u) → Gives {U = V} (f x) m k mid new (Err fault) → Gives {U = V} (all (map f xs)) n k old new (Err fault)
-gives_last {X} {Y} {U} V f xs i x none n m k old mid new u fault within is before fails =
-    let here : Gives {U = V} (both (all (map f (take i xs))) (f x)) n k old new (Err fault) = gives_both {V = V} (all (map f (take i xs))) (f x) n m k old mid new u (Err fault) before fails in
-    let front : Gives {U = V} (all (map f (take (i + 1) xs))) n k old new (Err fault) = subst (λ (read : Read (List X)). Gives {U = V} read n k old new (Err fault)) (sym (next_part f xs i x none within is)) here in
-    let split : all (map f xs) ≡ both (all (map f (take (i + 1) xs))) (all (map f (drop (i + 1) xs))) =
-    sym (ap (λ (ys : List Y). all (map f ys)) (take-append-drop (i + 1) xs)) ∙ ap all (map-append f (take (i + 1) xs) (drop (i + 1) xs)) ∙ all-append (map f (take (i + 1) xs)) (map f (drop (i + 1) xs)) in
-    subst (λ (read : Read (List X)). Gives {U = V} read n k old new (Err fault)) (sym split) (gives_fault V V (all (map f (take (i + 1) xs))) (all (map f (drop (i + 1) xs))) n k old new fault front)
-
--- ---- what the parts of a page give, its page gives
-
 -- a fault that is handed on
 pub handed_on : {X : Type 0} (U : Type 0) {V : Type 0} (read : Read (List X)) (n m : ℕ) (old new : List X) (result : Result V TableFault) (found : TableFault) → IsErrAnd result (λ fault. fault ≡ found)
     → Gives {U = U} read n m old new (Err found) → Gives {U = V} read n m old new result
@@ -155,87 +106,169 @@ handed_on U {V} read n m old new (Err Default) found told gives = let is : found
 handed_on U {V} read n m old new (Err (Encoding row)) found told gives = let is : found ≡ Encoding row = sym told in absurd (subst (λ (f : TableFault). Gives {U = V} read n m old new (Err f)) is gives)
 handed_on U {V} read n m old new (Err Memory) found told gives = tt
 
--- ---- a cell
+-- ---- the steps of a tree
 
-cell_is : (below : ℕ → Read (List Stored)) (page : TreePage) (place number : ℕ) (cell : List ℕ) → Some cell ≡ cell_at page place → number ≡ u32_at cell 0
-    → both (rows_of_child below page.kind.leaf number) (given (own_row page cell)) ≡ rows_at below page place
+same_both : {X : Type 0} (b : Bool) (x : X) → (if b then x else x) ≡ x
+same_both true x = refl
+same_both false x = refl
+
+-- what is left from a cell on is that cell, and what is left from the next one on
+pub one_cell : (below : ℕ → List Step) (page : TreePage) (place count : ℕ) → place < count → count ≡ cell_count page.bytes page.header
+    → rows_from below page place ≡ rows_at below page place ++ rows_from below page (place + 1)
+one_cell below page place count less is =
+    let parts = rows_at below page in
+    let last = rows_of_child below page.kind.leaf (right_child page.bytes page.header) in
+    let left = cell_count page.bytes page.header - (place + 1) in
+    let one : cell_count page.bytes page.header - place ≡ suc left = omega (arith, less, is) in
+    ap (λ (n : ℕ). flat_map parts (range_with_len place n) ++ last) one ∙ append_assoc (parts place) (flat_map parts (range_with_len (place + 1) left)) last
+
+-- behind all of them is the last child
+pub no_cell : (below : ℕ → List Step) (page : TreePage) (place count : ℕ) → count ≤ place → count ≡ cell_count page.bytes page.header
+    → rows_from below page place ≡ rows_of_child below page.kind.leaf (right_child page.bytes page.header)
+no_cell below page place count less is =
+    let none : cell_count page.bytes page.header - place ≡ 0 = omega (arith, less, is) in
+    ap (λ (n : ℕ). flat_map (rows_at below page) (range_with_len place n) ++ rows_of_child below page.kind.leaf (right_child page.bytes page.header)) none
+
+-- the deepest level comes first
+levels_more : (file : List ℕ) (tree : Tree) (levels : List Level) (level : Level) → steps_of_all file tree (levels ++ level ∷ []) ≡ steps_of file tree level ++ steps_of_all file tree levels
+levels_more file tree [] level = sym (append-nil (steps_of file tree level))
+levels_more file tree (first ∷ levels) level =
+    ap (λ (steps : List Step). steps ++ steps_of file tree first) (levels_more file tree levels level)
+    ∙ append_assoc (steps_of file tree level) (steps_of_all file tree levels) (steps_of file tree first)
+
+pub pushed : (file : List ℕ) (tree : Tree) (levels more : List Level) (level : Level) → more ≡ levels ++ level ∷ [] → steps_of_all file tree more ≡ steps_of file tree level ++ steps_of_all file tree levels
+pushed file tree levels more level is = ap (steps_of_all file tree) is ∙ levels_more file tree levels level
+
+-- a row before others is the next one
+pub row_first : (left : ℕ) (row : Option StoredRow) (steps behind : List Step) → sound_rows left ((row_step row ++ steps) ++ behind) ≡ with_row row (sound_rows left (steps ++ behind))
+row_first left None steps behind = refl
+row_first left (Some row) steps behind = refl
+
+-- a cell that is there: the rows below its child, its own, and those behind it
+pub cell_steps : (below : ℕ → List Step) (page : TreePage) (place count number : ℕ) (cell : List ℕ) (row : Option StoredRow) → place < count → count ≡ cell_count page.bytes page.header → Some cell ≡ cell_at page place
+    → number ≡ u32_at cell 0 → row_step row ≡ own_row page cell
+    → rows_from below page place ≡ rows_of_child below page.kind.leaf number ++ (row_step row ++ rows_from below page (place + 1))
 unfolding cell_child
-cell_is below page place number cell found child =
-    ap (λ (i : ℕ). both (rows_of_child below page.kind.leaf i) (given (own_row page cell))) child ∙ ap (where_some (rows_of_cell below page)) found
+cell_steps below page place count number cell row less is found child own =
+    let later = rows_from below page (place + 1) in
+    one_cell below page place count less is
+    ∙ ap (λ (it : Option (List ℕ)). steps_in (rows_of_cell below page) it ++ later) (sym found)
+    ∙ ap₂ (λ (n : ℕ) (steps : List Step). (rows_of_child below page.kind.leaf n ++ steps) ++ later) (sym child) (sym own)
+    ∙ append_assoc (rows_of_child below page.kind.leaf number) (row_step row) later
 
-pub gives_cell : {U V : Type 0} (below : ℕ → Read (List Stored)) (page : TreePage) (place number : ℕ) (cell : List ℕ) (n m k : ℕ) (old mid new : List Stored) (x : U) (r : Result V TableFault)
-    → Some cell ≡ cell_at page place → number ≡ u32_at cell 0 → Gives (rows_of_child below page.kind.leaf number) n m old mid (Ok x) → Gives (given (own_row page cell)) m k mid new r
-    → Gives (rows_at below page place) n k old new r
-gives_cell below page place number cell n m k old mid new x r found child first last =
-    subst (λ (read : Read (List Stored)). Gives read n k old new r) (cell_is below page place number cell found child)
-    (gives_both (rows_of_child below page.kind.leaf number) (given (own_row page cell)) n m k old mid new x r first last)
+module _ (file : List ℕ) (tree : Tree) (level : Level) (left number : ℕ) (cell : List ℕ) (row : Option StoredRow) (behind : List Step) (fresh : level.row ≡ None) (less : level.place < level.node.count)
+    (found : Some cell ≡ cell_at (page_of level.node) level.place) (child : number ≡ u32_at cell 0) (own : row_step row ≡ own_row (page_of level.node) cell) where
+  later : List Step
+  later = rows_from (rows_below file tree level.below) (page_of level.node) (level.place + 1)
 
-pub gives_no_cell : (U V : Type 0) (below : ℕ → Read (List Stored)) (page : TreePage) (place number : ℕ) (cell : List ℕ) (n m : ℕ) (old new : List Stored) (fault : TableFault)
-    → Some cell ≡ cell_at page place → number ≡ u32_at cell 0 → Gives {U = U} (rows_of_child below page.kind.leaf number) n m old new (Err fault)
-    → Gives {U = V} (rows_at below page place) n m old new (Err fault)
-gives_no_cell U V below page place number cell n m old new fault found child fails =
-    subst (λ (read : Read (List Stored)). Gives {U = V} read n m old new (Err fault)) (cell_is below page place number cell found child)
-    (gives_fault U V (rows_of_child below page.kind.leaf number) (given (own_row page cell)) n m old new fault fails)
+  level_steps : steps_of file tree level ≡ rows_of_child (rows_below file tree level.below) level.node.kind.leaf number ++ (row_step row ++ later)
+  unfolding later cell_count
+  level_steps =
+      ap (λ (first : Option StoredRow). row_step first ++ rows_from (rows_below file tree level.below) (page_of level.node) level.place) fresh
+      ∙ cell_steps (rows_below file tree level.below) (page_of level.node) level.place level.node.count number cell row less level.node.counted found child own
 
--- ---- a page
+  -- of a leaf, the row is the next one
+  pub leaf_cell : level.node.kind.leaf ≡ true → sound_rows left (steps_of file tree level ++ behind)
+      ≡ with_row row (sound_rows left (steps_of file tree (record { node = level.node; below = level.below; place = level.place + 1; row = level.row }) ++ behind))
+  unfolding cell_count later
+  leaf_cell leaf =
+      ap (λ (steps : List Step). sound_rows left (steps ++ behind)) (level_steps ∙ ap (λ (b : Bool). rows_of_child (rows_below file tree level.below) b number ++ (row_step row ++ later)) leaf)
+      ∙ row_first left row later behind
+      ∙ ap (λ (first : Option StoredRow). with_row row (sound_rows left ((row_step first ++ later) ++ behind))) (sym fresh)
 
-pub none_at_zero : (file : List ℕ) (tree : Tree) (levels number : ℕ) → levels ≡ 0 → (rows_below file tree levels number).1 ≡ None
+  -- else those below its child come first
+  pub inner_cell : level.node.kind.leaf ≡ false → sound_rows left (steps_of file tree level ++ behind)
+      ≡ sound_rows left (rows_below file tree level.below number ++ (steps_of file tree (record { node = level.node; below = level.below; place = level.place + 1; row = row }) ++ behind))
+  unfolding cell_count later
+  inner_cell inner =
+      ap (λ (steps : List Step). sound_rows left (steps ++ behind)) (level_steps ∙ ap (λ (b : Bool). rows_of_child (rows_below file tree level.below) b number ++ (row_step row ++ later)) inner)
+      ∙ ap (sound_rows left) (append_assoc (rows_below file tree level.below number) (row_step row ++ later) behind)
+
+-- a cell that isn't
+pub cell_fault : (below : ℕ → List Step) (page : TreePage) (place count left : ℕ) (behind : List Step) → place < count → count ≡ cell_count page.bytes page.header → cell_at page place ≡ None
+    → sound_rows left (rows_from below page place ++ behind) ≡ ([], false)
+cell_fault below page place count left behind less is none =
+    let later = rows_from below page (place + 1) in
+    ap (λ (steps : List Step). sound_rows left (steps ++ behind)) (one_cell below page place count less is)
+    ∙ ap (λ (it : Option (List ℕ)). sound_rows left ((steps_in (rows_of_cell below page) it ++ later) ++ behind)) none
+
+-- a page that isn't there, for one of three reasons
+pub no_level : (file : List ℕ) (tree : Tree) (levels number left : ℕ) (behind : List Step) → levels ≡ 0 → sound_rows left (rows_below file tree levels number ++ behind) ≡ ([], false)
 unfolding rows_below
-none_at_zero file tree levels number is = ap (λ (l : ℕ). (rows_below file tree l number).1) is
+no_level file tree levels number left behind is = ap (λ (l : ℕ). sound_rows left (rows_below file tree l number ++ behind)) is
 
-gives_page : {X : Type 0} (n m : ℕ) (old : List X) → n ≡ m + 1 → Gives {U = ℕ} one_page n m old old (Ok 0)
-gives_page n m old one = ([], refl, sym (append-nil old), one)
+pub no_left : (file : List ℕ) (tree : Tree) (levels number left : ℕ) (behind : List Step) → left ≡ 0 → sound_rows left (rows_below file tree levels number ++ behind) ≡ ([], false)
+unfolding rows_below
+no_left file tree zero number left behind is = refl
+no_left file tree (suc levels) number left behind is = ap (λ (l : ℕ). sound_rows l (rows_below file tree (suc levels) number ++ behind)) is
 
-module _ (file : List ℕ) (tree : Tree) (levels below number : ℕ) (more : levels ≡ below + 1) where
-  rows_below_is : rows_below file tree levels number ≡ both one_page (where_some (rows_of_page (rows_below file tree below)) (page_at file tree number))
-  unfolding rows_below
-  rows_below_is = ap (λ (l : ℕ). rows_below file tree l number) (more ∙ add-one below)
-
-  pub gives_no_page : {P : Type 0} (V : Type 0) (shown : P → TreePage) (n m : ℕ) (old new : List Stored) (fault : TableFault) → GivesPage shown (page_at file tree number) n m (Err fault)
-      → Gives {U = V} (rows_below file tree levels number) n m old new (Err fault)
-  gives_no_page V shown n m old new Damage (inl none) =
-      inl (ap (λ (read : Read (List Stored)). read.1) (rows_below_is ∙ ap (λ (page : Option TreePage). both one_page (where_some (rows_of_page (rows_below file tree below)) page)) none))
-  gives_no_page V shown n m old new Damage (inr none) = inr (omega (arith, ap (λ (read : Read (List Stored)). read.0) rows_below_is, none))
-  gives_no_page V shown n m old new Default fails = absurd fails
-  gives_no_page V shown n m old new (Encoding row) fails = absurd fails
-  gives_no_page V shown n m old new Memory fails = tt
-
-  module _ (node : TreePage) (found : page_at file tree number ≡ Some node) where
-    rows_are : (count right : ℕ) → count ≡ cell_count node.bytes node.header → right ≡ right_child node.bytes node.header
-        → both one_page (both (all (map (rows_at (rows_below file tree below) node) (range_with_len 0 count))) (rows_of_child (rows_below file tree below) node.kind.leaf right)) ≡ rows_below file tree levels number
-    rows_are count right counted last =
-        ap₂ (λ (c r : ℕ). both one_page (both (all (map (rows_at (rows_below file tree below) node) (range_with_len 0 c))) (rows_of_child (rows_below file tree below) node.kind.leaf r))) counted last
-        ∙ sym (rows_below_is ∙ ap (λ (p : Option TreePage). both one_page (where_some (rows_of_page (rows_below file tree below)) p)) found)
-
-    pub gives_rows : {U V : Type 0} (count right n m k j : ℕ) (old mid new : List Stored) (x : U) (r : Result V TableFault) → count ≡ cell_count node.bytes node.header
-        → right ≡ right_child node.bytes node.header → n ≡ m + 1 → Gives (all (map (rows_at (rows_below file tree below) node) (range_with_len 0 count))) m k old mid (Ok x)
-        → Gives (rows_of_child (rows_below file tree below) node.kind.leaf right) k j mid new r → Gives (rows_below file tree levels number) n j old new r
-    gives_rows count right n m k j old mid new x r counted last one cells child =
-        let first = all (map (rows_at (rows_below file tree below) node) (range_with_len 0 count)) in
-        let second = rows_of_child (rows_below file tree below) node.kind.leaf right in
-        subst (λ (read : Read (List Stored)). Gives read n j old new r) (rows_are count right counted last)
-        (gives_both {U = ℕ} one_page (both first second) n m j old old new 0 r (gives_page n m old one) (gives_both first second m k j old mid new x r cells child))
-
-    pub gives_no_row : {U : Type 0} (V : Type 0) (place count n m k j : ℕ) (old mid new : List Stored) (x : U) (fault : TableFault) → place < count → count ≡ cell_count node.bytes node.header
-        → n ≡ m + 1 → Gives (all (map (rows_at (rows_below file tree below) node) (range_with_len 0 place))) m k old mid (Ok x)
-        → Gives {U = V} (rows_at (rows_below file tree below) node place) k j mid new (Err fault) → Gives {U = V} (rows_below file tree levels number) n j old new (Err fault)
-    gives_no_row V place count n m k j old mid new x fault within counted one cells fails =
-        let first = all (map (rows_at (rows_below file tree below) node) (range_with_len 0 count)) in
-        let second = rows_of_child (rows_below file tree below) node.kind.leaf (right_child node.bytes node.header) in
-        let less : Gives {U = V} first m j old new (Err fault) = gives_less V (rows_at (rows_below file tree below) node) place count m k j old mid new x fault within cells fails in
-        let both_fail : Gives {U = V} (both first second) m j old new (Err fault) = gives_fault V V first second m j old new fault less in
-        subst (λ (read : Read (List Stored)). Gives {U = V} read n j old new (Err fault)) (rows_are count (right_child node.bytes node.header) counted refl)
-        (gives_both {U = ℕ} {V = V} one_page (both first second) n m j old old new 0 (Err fault) (gives_page n m old one) both_fail)
-
--- ---- overflow pages
+pub no_page : (file : List ℕ) (tree : Tree) (levels number left : ℕ) (behind : List Step) → page_at file tree number ≡ None
+    → sound_rows left (rows_below file tree levels number ++ behind) ≡ ([], false)
+unfolding rows_below
+no_page file tree zero number left behind none = refl
+no_page file tree (suc levels) number left behind none =
+    ap (λ (page : Option TreePage). sound_rows left (a_page ∷ (steps_in (λ (it : TreePage). rows_from (rows_below file tree levels) it 0) page ++ behind))) none
+    ∙ same_both (left == 0) ([], false)
 
 if_more : {X : Type 0} (n : ℕ) (a b : X) → 0 < n → (if n == 0 then a else b) ≡ b
 if_more n a b less = grind (arith, nat_tests)
+
+-- a page that is there is one less to read, and its rows are next
+pub one_page_less : (file : List ℕ) (tree : Tree) (levels below number left rest : ℕ) (page : TreePage) (behind : List Step) → levels ≡ below + 1 → left ≡ rest + 1
+    → page_at file tree number ≡ Some page
+    → sound_rows left (rows_below file tree levels number ++ behind) ≡ sound_rows rest (rows_from (rows_below file tree below) page 0 ++ behind)
+unfolding rows_below
+one_page_less file tree levels below number left rest page behind more fewer found =
+    let steps = λ (it : Option TreePage). steps_in (λ (page : TreePage). rows_from (rows_below file tree below) page 0) it ++ behind in
+    let less : left - 1 ≡ rest = omega (arith, fewer) in
+    ap (λ (l : ℕ). sound_rows left (rows_below file tree l number ++ behind)) (more ∙ add-one below)
+    ∙ if_more left ([], false) (sound_rows (left - 1) (steps (page_at file tree number))) (omega (arith, fewer))
+    ∙ ap₂ (λ (l : ℕ) (it : Option TreePage). sound_rows l (steps it)) less found
+
+-- why there is no row, of which the fault is handed on
+pub lacks_row : {V : Type 0} (rows : List Stored × Bool) (result : Result V TableFault) (found : TableFault) → IsErrAnd result (λ fault. fault ≡ found) → LacksRow rows found → IfErr result (LacksRow rows)
+lacks_row rows (Ok x) found told lacks = absurd told
+lacks_row rows (Err fault) found told lacks = subst (LacksRow rows) (sym told) lacks
+
+-- ---- the first rows
+
+first_pair : (b : Bool) (row : Stored) (one other : List Stored × Bool)
+    → ◌≡◌ {A = List Stored × Bool} (if◌then◌else◌ {A = List Stored × Bool} b (row ∷ one.0, one.1) (row ∷ other.0, other.1))
+    (row ∷ (if◌then◌else◌ {A = List Stored × Bool} b one other).0, (if◌then◌else◌ {A = List Stored × Bool} b one other).1)
+first_pair true row one other = refl
+first_pair false row one other = refl
+
+-- one row more, of which one less is wanted
+first_more : (limit less : ℕ) (row : Stored) (rows : List Stored × Bool) → limit ≡ less + 1
+    → ◌≡◌ {A = List Stored × Bool} (first_of (Some limit) (row ∷ rows.0, rows.1)) (row ∷ (first_of (Some less) rows).0, (first_of (Some less) rows).1)
+first_more limit less row rows is =
+    let none : List Stored × Bool = (row ∷ rows.0, rows.1) in
+    ap (λ (n : ℕ). first_of (Some n) none) (is ∙ add-one less)
+    ∙ ap (λ (b : Bool). if◌then◌else◌ {A = List Stored × Bool} b (row ∷ take less rows.0, true) none) (leb-suc-suc less (length rows.0))
+    ∙ first_pair (nat_le less (length rows.0)) row (take less rows.0, true) rows
+
+first_of_none : (limit : Option ℕ) → ◌≡◌ {A = List Stored × Bool} (first_of limit ([], true)) ([], true)
+first_of_none None = refl
+first_of_none (Some zero) = refl
+first_of_none (Some (suc limit)) = same_both {X = List Stored × Bool} (nat_le (suc limit) 0) ([], true)
+
+-- a row is given only where one more is wanted
+pub first_given : {E : Type 0} (limit less : ℕ) (result : Result (Option StoredRow) E) (before after : List Stored × Bool) → limit ≡ less + 1 → IfOk result (λ row. before ≡ with_row row after)
+    → IfOk result (λ row. row ≡ None → before ≡ ([], true)) → IfOk result (λ row. first_of (Some limit) before ≡ with_row row (first_of (Some less) after))
+first_given limit less (Err e) before after is rows end = tt
+first_given limit less (Ok (Some row)) before after is rows end = ap (first_of (Some limit)) rows ∙ first_more limit less (stored_of row) after is
+first_given limit less (Ok None) before after is rows end =
+    ap (first_of (Some limit)) (end refl) ∙ first_of_none (Some limit) ∙ sym (ap (first_of (Some less)) (sym rows ∙ end refl) ∙ first_of_none (Some less))
+
+-- ---- overflow pages
 
 pub chain_none : (file : List ℕ) (pages number left : ℕ) → left ≡ 0 → chain file pages number left ≡ given []
 unfolding chain
 chain_none file zero number left none = ap (λ (l : ℕ). if l == 0 then given [] else damaged) none
 chain_none file (suc pages) number left none = ap (λ (l : ℕ). chain file (suc pages) number l) none
+
+gives_page : {X : Type 0} (n m : ℕ) (old : List X) → n ≡ m + 1 → Gives {U = ℕ} one_page n m old old (Ok 0)
+gives_page n m old one = ([], refl, sym (append-nil old), one)
 
 module _ (file : List ℕ) (pages below number left : ℕ) (more : pages ≡ below + 1) (less : 0 < left) where
   chain_is : chain file pages number left
@@ -278,13 +311,6 @@ text_more f xs i none text partial old new within is pushed whole before =
     ∙ ap₂ (λ (texts : List (List ℕ)) (p : List ℕ). texts ++ ((p ++ text) ∷ [])) before whole
     ∙ ap (λ (t : List ℕ). map f (take i xs) ++ t ∷ []) is
     ∙ sym (map_more f xs i none within)
-
--- an element of a list, of which another list is made
-pub among : {X Y : Type 0} (f : X → Y) (xs items : List X) (i : ℕ) (none : X) → xs ≡ items → i < length xs
-    → (i < length (map f items)) × (slice_index_or (map f items) i (f (get_or xs i none)) ≡ f (get_or xs i none))
-among {X} f xs items i none is less =
-    let within : i < length items = subst (λ (n : ℕ). i < n) (ap length is) less in
-    (subst (λ (n : ℕ). i < n) (sym (length-map items f)) within, get_or-map f items i none (f (get_or xs i none)) within ∙ ap (λ (ys : List X). f (get_or ys i none)) (sym is))
 
 module _ (file : List ℕ) (definition : Definition) (row : Stored) (n m : ℕ) where
   texts_of : List ℕ → Option (List (List (List ℕ)))
@@ -334,70 +360,113 @@ module _ (file : List ℕ) (definition : Definition) (row : Stored) (n m : ℕ) 
       let is : found ≡ Encoding at = sym told in absurd (subst (λ (f : TableFault). Gives {U = U} (record_of file row) n m before after (Err f)) is fails)
   gives_unread U before after old new (Err Memory) found told fails = tt
 
-module _ (file : List ℕ) (root : ℕ) (definition : Definition) (old new : List (List (List ℕ))) where
-  -- a walk that fails, of which the fault is handed on
-  pub adds_unwalked : (V P : Type 0) (shown : P → List Stored) (result : Result V TableFault) (found : TableFault) → IsErrAnd result (λ fault. fault ≡ found)
-      → Walks {P = P} shown file definition.tree root (Err found) → AddsRows {U = V} file root definition old new result
-  adds_unwalked V P shown (Ok x) found told fails = absurd told
-  adds_unwalked V P shown (Err Damage) found told fails = let is : found ≡ Damage = sym told in inl (subst (λ (f : TableFault). Walks {P = P} shown file definition.tree root (Err f)) is fails)
-  adds_unwalked V P shown (Err Default) found told fails = let is : found ≡ Default = sym told in absurd (subst (λ (f : TableFault). Walks {P = P} shown file definition.tree root (Err f)) is fails)
-  adds_unwalked V P shown (Err (Encoding at)) found told fails = let is : found ≡ Encoding at = sym told in absurd (subst (λ (f : TableFault). Walks {P = P} shown file definition.tree root (Err f)) is fails)
-  adds_unwalked V P shown (Err Memory) found told fails = tt
+-- one row more
+module _ (file : List ℕ) (definition : Definition) (taken : List Stored) (row : Stored) (n m k : ℕ) (old mid new : List (List (List ℕ))) where
+  rows_more : (later : List Stored) → shown_rows_of file definition (taken ++ row ∷ later)
+      ≡ both (both (shown_rows_of file definition taken) (shown_row file definition row)) (shown_rows_of file definition later)
+  rows_more later =
+      ap all (map-append (shown_row file definition) taken (row ∷ later))
+      ∙ all-append (map (shown_row file definition) taken) (shown_row file definition row ∷ map (shown_row file definition) later)
+      ∙ sym (both_assoc (shown_rows_of file definition taken) (shown_row file definition row) (shown_rows_of file definition later))
 
-  module _ (stored : List Stored) (walked : (rows_below file definition.tree most_levels root).1 ≡ Some stored) where
-    pub adds_all : {U V : Type 0} (x : U) (y : V) (n m : ℕ) → Gives (shown_rows_of file definition stored) n m old new (Ok x) → AddsRows file root definition old new (Ok y)
-    adds_all x y n m read = (read.0, record { stored = stored; walked = walked; shown = read.1 }, read.2)
+  pub shown_more : {U V : Type 0} (x : U) (y : V) → Gives (shown_rows_of file definition taken) n m old mid (Ok x) → Gives (shown_row file definition row) m k mid new (Ok y)
+      → Gives (shown_rows_of file definition (taken ++ row ∷ [])) n k old new (Ok y)
+  shown_more {V = V} x y before here =
+      subst (λ (read : Read (List (List (List ℕ)))). Gives {U = V} read n k old new (Ok y)) (sym (rows_more [] ∙ both_nothing (both (shown_rows_of file definition taken) (shown_row file definition row))))
+      (gives_both (shown_rows_of file definition taken) (shown_row file definition row) n m k old mid new x (Ok y) before here)
 
-    -- one of the rows fails, which makes all of them fail if a page does
-    pub adds_unread : (U V : Type 0) (n m k place : ℕ) (mid : List (List (List ℕ))) (row : Stored) (result : Result V TableFault) (found : TableFault) → IsErrAnd result (λ fault. fault ≡ found) → n ≡ page_count file
-        → (place < length stored) × (slice_index_or stored place row ≡ row)
-        → (Gives {U = U} (shown_row file definition row) m k mid new (Err Damage) → Gives {U = U} (shown_rows_of file definition stored) n k old new (Err Damage))
-        → GivesRow {U = U} file definition row m k mid new (Err found) → AddsRows {U = V} file root definition old new result
-    adds_unread U V n m k place mid row (Ok x) found told all_pages is_row whole fails = absurd told
-    adds_unread U V n m k place mid row (Err Damage) found told all_pages is_row whole fails =
+  pub shown_less : {U : Type 0} (V : Type 0) (x : U) (later : List Stored) → Gives (shown_rows_of file definition taken) n m old mid (Ok x) → Gives {U = V} (shown_row file definition row) m k mid new (Err Damage)
+      → Gives {U = V} (shown_rows_of file definition (taken ++ row ∷ later)) n k old new (Err Damage)
+  shown_less V x later before fails =
+      let first = shown_rows_of file definition taken in
+      let here = shown_row file definition row in
+      subst (λ (read : Read (List (List (List ℕ)))). Gives {U = V} read n k old new (Err Damage)) (sym (rows_more later))
+      (gives_fault V V (both first here) (shown_rows_of file definition later) n k old new Damage (gives_both {V = V} first here n m k old mid new x (Err Damage) before fails))
+
+-- an item between others
+between : {X : Type 0} (before later : List X) (x : X) → (length before < length (before ++ x ∷ later)) × (slice_index_or (before ++ x ∷ later) (length before) x ≡ x)
+between [] later x = (omega arith, refl)
+between (y ∷ before) later x = let rest = between before later x in (omega (arith, rest.0), rest.1)
+
+module _ (limit : Option ℕ) (file : List ℕ) (root : ℕ) (definition : Definition) (old new : List (List (List ℕ))) where
+  -- no row to begin with
+  pub adds_none : (V : Type 0) (result : Result V TableFault) (found : TableFault) → IsErrAnd result (λ fault. fault ≡ found) → LacksRow (tree_rows limit file definition.tree root) found
+      → AddsRows limit file root definition old new result
+  adds_none V (Ok x) found told lacks = absurd told
+  adds_none V (Err Damage) found told lacks = inl (ap (λ (rows : List Stored × Bool). rows.1) (subst (LacksRow (tree_rows limit file definition.tree root)) (sym told) lacks))
+  adds_none V (Err Default) found told lacks = absurd (subst (LacksRow (tree_rows limit file definition.tree root)) (sym told) lacks)
+  adds_none V (Err (Encoding at)) found told lacks = absurd (subst (LacksRow (tree_rows limit file definition.tree root)) (sym told) lacks)
+  adds_none V (Err Memory) found told lacks = tt
+
+  module _ (taken : List Stored) (rest : List Stored × Bool) (walked : tree_rows limit file definition.tree root ≡ (taken ++ rest.0, rest.1)) where
+    -- no further row
+    pub adds_no_more : (V : Type 0) (result : Result V TableFault) (found : TableFault) → IsErrAnd result (λ fault. fault ≡ found) → LacksRow rest found → AddsRows limit file root definition old new result
+    adds_no_more V (Ok x) found told lacks = absurd told
+    adds_no_more V (Err Damage) found told lacks =
+        inl (ap (λ (rows : List Stored × Bool). rows.1) walked ∙ ap (λ (rows : List Stored × Bool). rows.1) (subst (LacksRow rest) (sym told) lacks))
+    adds_no_more V (Err Default) found told lacks = absurd (subst (LacksRow rest) (sym told) lacks)
+    adds_no_more V (Err (Encoding at)) found told lacks = absurd (subst (LacksRow rest) (sym told) lacks)
+    adds_no_more V (Err Memory) found told lacks = tt
+
+    pub adds_all : {U V : Type 0} (x : U) (y : V) (n m : ℕ) → rest ≡ ([], true) → Gives (shown_rows_of file definition taken) n m old new (Ok x) → AddsRows limit file root definition old new (Ok y)
+    adds_all x y n m done read =
+        let whole : tree_rows limit file definition.tree root ≡ (taken, true) =
+        walked ∙ ap (λ (rows : List Stored × Bool). (taken ++ rows.0, rows.1)) done ∙ ap (λ (rows : List Stored). (rows, true)) (append-nil taken) in
+        (read.0, record { sound = ap (λ (rows : List Stored × Bool). rows.1) whole; shown = ap (λ (rows : List Stored × Bool). (shown_rows_of file definition rows.0).1) whole ∙ read.1 }, read.2)
+
+  -- one of the rows fails, which makes all of them fail if a page does
+  module _ (taken later : List Stored) (row : Stored) (sound : Bool) (walked : tree_rows limit file definition.tree root ≡ (taken ++ row ∷ later, sound)) where
+    pub adds_unread : {X : Type 0} (U V : Type 0) (x : X) (n m k : ℕ) (mid : List (List (List ℕ))) (result : Result V TableFault) (found : TableFault) → IsErrAnd result (λ fault. fault ≡ found) → n ≡ page_count file
+        → Gives (shown_rows_of file definition taken) n m old mid (Ok x) → GivesRow {U = U} file definition row m k mid new (Err found) → AddsRows limit file root definition old new result
+    adds_unread U V x n m k mid (Ok y) found told all_pages read fails = absurd told
+    adds_unread U V x n m k mid (Err Damage) found told all_pages read fails =
         let is : found ≡ Damage = sym told in
-        let damage = whole (subst (λ (f : TableFault). GivesRow {U = U} file definition row m k mid new (Err f)) is fails) in
-        let unsound : IsUnsound file (shown_rows_of file definition stored) = elim damage [ inl none ↦ inl none | inr less ↦ inr (omega (arith, less, all_pages)) ] in
-        inr (stored, walked, unsound)
-    adds_unread U V n m k place mid row (Err Default) found told all_pages is_row whole fails =
+        let damage = shown_less file definition taken row n m k old mid new U x later read (subst (λ (f : TableFault). GivesRow {U = U} file definition row m k mid new (Err f)) is fails) in
+        let unsound : IsUnsound file (shown_rows_of file definition (taken ++ row ∷ later)) = elim damage [ inl none ↦ inl none | inr less ↦ inr (omega (arith, less, all_pages)) ] in
+        inr (subst (λ (rows : List Stored × Bool). IsUnsound file (shown_rows_of file definition rows.0)) (sym walked) unsound)
+    adds_unread U V x n m k mid (Err Default) found told all_pages read fails =
         let is : found ≡ Default = sym told in
-        (stored, walked, (place, row, is_row.0, is_row.1, subst (λ (f : TableFault). GivesRow {U = U} file definition row m k mid new (Err f)) is fails))
-    adds_unread U V n m k place mid row (Err (Encoding at)) found told all_pages is_row whole fails =
+        let here = between taken later row in
+        subst (λ (rows : List Stored × Bool). Any (IsOld file definition) rows.0) (sym walked)
+        (length taken, row, here.0, here.1, subst (λ (f : TableFault). GivesRow {U = U} file definition row m k mid new (Err f)) is fails)
+    adds_unread U V x n m k mid (Err (Encoding at)) found told all_pages read fails =
         let is : found ≡ Encoding at = sym told in
-        (stored, walked, (place, row, is_row.0, is_row.1, subst (λ (f : TableFault). GivesRow {U = U} file definition row m k mid new (Err f)) is fails))
-    adds_unread U V n m k place mid row (Err Memory) found told all_pages is_row whole fails = tt
+        let here = between taken later row in
+        subst (λ (rows : List Stored × Bool). Any (HasWrongText file definition) rows.0) (sym walked)
+        (length taken, row, here.0, here.1, subst (λ (f : TableFault). GivesRow {U = U} file definition row m k mid new (Err f)) is fails)
+    adds_unread U V x n m k mid (Err Memory) found told all_pages read fails = tt
 
 -- ---- why a table isn't shown, from why a part of it isn't
 
 -- rows that couldn't be added
-pub lacks_rows : (U : Type 0) (file : List ℕ) (root : ℕ) (known definition : Definition) (old new : List (List (List ℕ))) (fault : TableFault) → known ≡ definition
-    → AddsRows {U = U} file root known old new (Err fault) → LacksRows file root definition fault
-lacks_rows U file root known definition old new row.Damage is adds = subst (λ (it : Definition). AddsRows {U = U} file root it old new (Err row.Damage)) is adds
-lacks_rows U file root known definition old new row.Default is adds = subst (λ (it : Definition). AddsRows {U = U} file root it old new (Err row.Default)) is adds
-lacks_rows U file root known definition old new (row.Encoding at) is adds = inr (subst (λ (it : Definition). AddsRows {U = U} file root it old new (Err (row.Encoding at))) is adds)
-lacks_rows U file root known definition old new row.Memory is adds = tt
+pub lacks_rows : (U : Type 0) (limit : Option ℕ) (file : List ℕ) (root : ℕ) (known definition : Definition) (old new : List (List (List ℕ))) (fault : TableFault) → known ≡ definition
+    → AddsRows {U = U} limit file root known old new (Err fault) → LacksRows limit file root definition fault
+lacks_rows U limit file root known definition old new row.Damage is adds = subst (λ (it : Definition). AddsRows {U = U} limit file root it old new (Err row.Damage)) is adds
+lacks_rows U limit file root known definition old new row.Default is adds = subst (λ (it : Definition). AddsRows {U = U} limit file root it old new (Err row.Default)) is adds
+lacks_rows U limit file root known definition old new (row.Encoding at) is adds = inr (subst (λ (it : Definition). AddsRows {U = U} limit file root it old new (Err (row.Encoding at))) is adds)
+lacks_rows U limit file root known definition old new row.Memory is adds = tt
 
 -- the same, of which the fault is handed on
-pub lacks_added : {V : Type 0} (U : Type 0) (file : List ℕ) (root : ℕ) (definition : Definition) (old new : List (List (List ℕ))) (result : Result V TableFault) (found : TableFault) → IsErrAnd result (λ fault. fault ≡ found)
-    → AddsRows {U = U} file root definition old new (Err found) → IfErr result (LacksRows file root definition)
-lacks_added U file root definition old new (Ok x) found told adds = absurd told
-lacks_added U file root definition old new (Err fault) found told adds =
-    lacks_rows U file root definition definition old new fault refl (subst (λ (f : TableFault). AddsRows {U = U} file root definition old new (Err f)) (sym told) adds)
+pub lacks_added : {V : Type 0} (U : Type 0) (limit : Option ℕ) (file : List ℕ) (root : ℕ) (definition : Definition) (old new : List (List (List ℕ))) (result : Result V TableFault) (found : TableFault) → IsErrAnd result (λ fault. fault ≡ found)
+    → AddsRows {U = U} limit file root definition old new (Err found) → IfErr result (LacksRows limit file root definition)
+lacks_added U limit file root definition old new (Ok x) found told adds = absurd told
+lacks_added U limit file root definition old new (Err fault) found told adds =
+    lacks_rows U limit file root definition definition old new fault refl (subst (λ (f : TableFault). AddsRows {U = U} limit file root definition old new (Err f)) (sym told) adds)
 
 -- names of columns that aren't shown
-lacks_named : (file : List ℕ) (root : ℕ) (definition : Definition) (fault : TableFault) → LacksTexts (names_in definition.columns) fault → LacksRows file root definition fault
-lacks_named file root definition row.Damage lacks = absurd lacks
-lacks_named file root definition row.Default lacks = absurd lacks
-lacks_named file root definition (row.Encoding at) lacks = inl lacks
-lacks_named file root definition row.Memory lacks = tt
+lacks_named : (limit : Option ℕ) (file : List ℕ) (root : ℕ) (definition : Definition) (fault : TableFault) → LacksTexts (names_in definition.columns) fault → LacksRows limit file root definition fault
+lacks_named limit file root definition row.Damage lacks = absurd lacks
+lacks_named limit file root definition row.Default lacks = absurd lacks
+lacks_named limit file root definition (row.Encoding at) lacks = inl lacks
+lacks_named limit file root definition row.Memory lacks = tt
 
-pub lacks_names : {V : Type 0} (file : List ℕ) (root : ℕ) (definition : Definition) (result : Result V TableFault) (found : TableFault) → IsErrAnd result (λ fault. fault ≡ found)
-    → LacksTexts (names_in definition.columns) found → IfErr result (LacksRows file root definition)
-lacks_names file root definition (Ok x) found told lacks = absurd told
-lacks_names file root definition (Err fault) found told lacks = lacks_named file root definition fault (subst (LacksTexts (names_in definition.columns)) (sym told) lacks)
+pub lacks_names : {V : Type 0} (limit : Option ℕ) (file : List ℕ) (root : ℕ) (definition : Definition) (result : Result V TableFault) (found : TableFault) → IsErrAnd result (λ fault. fault ≡ found)
+    → LacksTexts (names_in definition.columns) found → IfErr result (LacksRows limit file root definition)
+lacks_names limit file root definition (Ok x) found told lacks = absurd told
+lacks_names limit file root definition (Err fault) found told lacks = lacks_named limit file root definition fault (subst (LacksTexts (names_in definition.columns)) (sym told) lacks)
 
-module _ (file null_text : List ℕ) (entry : Entry) where
-  lacks_definition : (fault : DatabaseFault) → LacksDefinition entry fault → LacksEntry file null_text entry fault
+module _ (limit : Option ℕ) (file null_text : List ℕ) (entry : Entry) where
+  lacks_definition : (fault : DatabaseFault) → LacksDefinition entry fault → LacksEntry limit file null_text entry fault
   lacks_definition Database lacks = absurd lacks
   lacks_definition UnknownEncoding lacks = absurd lacks
   lacks_definition (Schema fault) lacks = absurd lacks
@@ -405,33 +474,33 @@ module _ (file null_text : List ℕ) (entry : Entry) where
   lacks_definition Elsewhere lacks = lacks
   lacks_definition Keyed lacks = lacks
   lacks_definition Computed lacks = lacks
-  lacks_definition (Table fault) lacks = subst (λ (f : TableFault). LacksEntry file null_text entry (Table f)) (sym lacks) tt
+  lacks_definition (Table fault) lacks = subst (λ (f : TableFault). LacksEntry limit file null_text entry (Table f)) (sym lacks) tt
 
   pub lacks_by_definition : {V : Type 0} (result : Result V DatabaseFault) (found : DatabaseFault) → IsErrAnd result (λ fault. fault ≡ found) → LacksDefinition entry found
-      → IfErr result (LacksEntry file null_text entry)
+      → IfErr result (LacksEntry limit file null_text entry)
   lacks_by_definition (Ok x) found told lacks = absurd told
   lacks_by_definition (Err fault) found told lacks = lacks_definition fault (subst (LacksDefinition entry) (sym told) lacks)
 
   pub lacks_by_rows : {V : Type 0} (result : Result V DatabaseFault) (found : TableFault) (definition : Definition) → IsErrAnd result (λ fault. fault ≡ Table found)
-      → definition ≡ definition_with null_text entry.statement → LacksRows file entry.root definition found → IfErr result (LacksEntry file null_text entry)
+      → definition ≡ definition_with null_text entry.statement → LacksRows limit file entry.root definition found → IfErr result (LacksEntry limit file null_text entry)
   lacks_by_rows (Ok x) found definition told is lacks = absurd told
   lacks_by_rows (Err fault) found definition told is lacks =
-      subst (LacksEntry file null_text entry) (sym told) (subst (λ (it : Definition). LacksRows file entry.root it found) is lacks)
+      subst (LacksEntry limit file null_text entry) (sym told) (subst (λ (it : Definition). LacksRows limit file entry.root it found) is lacks)
 
 -- a table that is listed and has no rows to show
-pub lacks_listed : {V : Type 0} (file name null_text : List ℕ) (entry : Entry) (result : Result V DatabaseFault) → IsListed file name entry → IfErr result (LacksEntry file null_text entry) → IfErr result (LacksTable file name null_text)
-lacks_listed file name null_text entry (Ok x) listed lacks = tt
-lacks_listed file name null_text entry (Err Database) listed lacks = absurd lacks
-lacks_listed file name null_text entry (Err UnknownEncoding) listed lacks = absurd lacks
-lacks_listed file name null_text entry (Err (Schema fault)) listed lacks = absurd lacks
-lacks_listed file name null_text entry (Err Absent) listed lacks = absurd lacks
-lacks_listed file name null_text entry (Err Elsewhere) listed lacks = (entry, listed, lacks)
-lacks_listed file name null_text entry (Err Keyed) listed lacks = (entry, listed, lacks)
-lacks_listed file name null_text entry (Err Computed) listed lacks = (entry, listed, lacks)
-lacks_listed file name null_text entry (Err (Table row.Damage)) listed lacks = (entry, listed, lacks)
-lacks_listed file name null_text entry (Err (Table row.Default)) listed lacks = (entry, listed, lacks)
-lacks_listed file name null_text entry (Err (Table (row.Encoding at))) listed lacks = (entry, listed, lacks)
-lacks_listed file name null_text entry (Err (Table row.Memory)) listed lacks = tt
+pub lacks_listed : {V : Type 0} (limit : Option ℕ) (file name null_text : List ℕ) (entry : Entry) (result : Result V DatabaseFault) → IsListed file name entry → IfErr result (LacksEntry limit file null_text entry) → IfErr result (LacksTable limit file name null_text)
+lacks_listed limit file name null_text entry (Ok x) listed lacks = tt
+lacks_listed limit file name null_text entry (Err Database) listed lacks = absurd lacks
+lacks_listed limit file name null_text entry (Err UnknownEncoding) listed lacks = absurd lacks
+lacks_listed limit file name null_text entry (Err (Schema fault)) listed lacks = absurd lacks
+lacks_listed limit file name null_text entry (Err Absent) listed lacks = absurd lacks
+lacks_listed limit file name null_text entry (Err Elsewhere) listed lacks = (entry, listed, lacks)
+lacks_listed limit file name null_text entry (Err Keyed) listed lacks = (entry, listed, lacks)
+lacks_listed limit file name null_text entry (Err Computed) listed lacks = (entry, listed, lacks)
+lacks_listed limit file name null_text entry (Err (Table row.Damage)) listed lacks = (entry, listed, lacks)
+lacks_listed limit file name null_text entry (Err (Table row.Default)) listed lacks = (entry, listed, lacks)
+lacks_listed limit file name null_text entry (Err (Table (row.Encoding at))) listed lacks = (entry, listed, lacks)
+lacks_listed limit file name null_text entry (Err (Table row.Memory)) listed lacks = tt
 
 -- ---- the list of all
 

@@ -76,7 +76,7 @@ schema_definition = definition_of (codes "create table sqlite_schema(type text, 
 
 -- the schema is the table that begins at page 1
 abbrev pub AreListed : List ℕ → List (List Text) → Type 0
-AreListed file rows = AreRows file 1 schema_definition rows
+AreListed file rows = AreRows None file 1 schema_definition rows
 
 -- the entry of a name
 pub record IsListed (file name : List ℕ) (entry : Entry) : Type 0 where
@@ -100,22 +100,22 @@ pub record IsStored (null_text : Text) (entry : Entry) (definition : Definition)
   pub known : definition.known ≡ true
   pub whole : definition.computed ≡ false
 
--- row 0 is the names of the columns
-abbrev pub AreNamedRows : List ℕ → ℕ → Definition → List (List Text) → Type 0
-AreNamedRows file root definition rows = (shown : List (List Text)) × AreRows file root definition shown × (rows ≡ names_in definition.columns ∷ shown)
+-- row 0 is the names of the columns, and below it stand so many rows, if not all
+abbrev pub AreNamedRows : Option ℕ → List ℕ → ℕ → Definition → List (List Text) → Type 0
+AreNamedRows limit file root definition rows = (shown : List (List Text)) × AreRows limit file root definition shown × (rows ≡ names_in definition.columns ∷ shown)
 
 -- the rows of an entry
-pub record AreEntryRows (file : List ℕ) (null_text : Text) (entry : Entry) (rows : List (List Text)) : Type 0 where
+pub record AreEntryRows (limit : Option ℕ) (file : List ℕ) (null_text : Text) (entry : Entry) (rows : List (List Text)) : Type 0 where
   pub definition : Definition
   pub stored : IsStored null_text entry definition
-  pub shown : AreNamedRows file entry.root definition rows
+  pub shown : AreNamedRows limit file entry.root definition rows
 
 -- the rows of the table of a name
-pub record AreTable (file name : List ℕ) (null_text : Text) (rows : List (List Text)) : Type 0 where
+pub record AreTable (limit : Option ℕ) (file name : List ℕ) (null_text : Text) (rows : List (List Text)) : Type 0 where
   pub read : IsRead file
   pub entry : Entry
   pub listed : IsListed file name entry
-  pub shown : AreEntryRows file null_text entry rows
+  pub shown : AreEntryRows limit file null_text entry rows
 
 -- ---- the list of all
 
@@ -193,16 +193,16 @@ LacksFile file Computed = ⊥
 LacksFile file (Table fault) = ⊥
 
 -- why a table's rows can't be read
-abbrev pub LacksRows : List ℕ → ℕ → Definition → TableFault → Type 0
-LacksRows file root definition row.Damage = IsDamaged file root definition
-LacksRows file root definition row.Default = HasRow file definition.tree root (IsOld file definition)
-LacksRows file root definition (row.Encoding at) = (¬ AllText (names_in definition.columns)) ⊎ HasRow file definition.tree root (HasWrongText file definition)
-LacksRows file root definition row.Memory = ⊤
+abbrev pub LacksRows : Option ℕ → List ℕ → ℕ → Definition → TableFault → Type 0
+LacksRows limit file root definition row.Damage = IsDamaged limit file root definition
+LacksRows limit file root definition row.Default = HasRow limit file definition.tree root (IsOld file definition)
+LacksRows limit file root definition (row.Encoding at) = (¬ AllText (names_in definition.columns)) ⊎ HasRow limit file definition.tree root (HasWrongText file definition)
+LacksRows limit file root definition row.Memory = ⊤
 
 abbrev pub LacksSchema : List ℕ → DatabaseFault → Type 0
 LacksSchema file Database = ⊥
 LacksSchema file Encoding = ⊥
-LacksSchema file (Schema fault) = LacksRows file 1 schema_definition fault
+LacksSchema file (Schema fault) = LacksRows None file 1 schema_definition fault
 LacksSchema file Absent = ⊥
 LacksSchema file Elsewhere = ⊥
 LacksSchema file Keyed = ⊥
@@ -220,37 +220,37 @@ LacksDefinition entry Computed = (definition_of entry.statement).computed ≡ tr
 LacksDefinition entry (Table fault) = fault ≡ row.Memory
 
 -- why an entry has no rows to show
-abbrev pub LacksEntry : List ℕ → Text → Entry → DatabaseFault → Type 0
-LacksEntry file null_text entry Database = ⊥
-LacksEntry file null_text entry Encoding = ⊥
-LacksEntry file null_text entry (Schema fault) = ⊥
-LacksEntry file null_text entry Absent = ⊥
-LacksEntry file null_text entry Elsewhere = entry.kind ≢ kind.Table
-LacksEntry file null_text entry Keyed = (definition_of entry.statement).known ≡ false
-LacksEntry file null_text entry Computed = (definition_of entry.statement).computed ≡ true
-LacksEntry file null_text entry (Table fault) = LacksRows file entry.root (definition_with null_text entry.statement) fault
+abbrev pub LacksEntry : Option ℕ → List ℕ → Text → Entry → DatabaseFault → Type 0
+LacksEntry limit file null_text entry Database = ⊥
+LacksEntry limit file null_text entry Encoding = ⊥
+LacksEntry limit file null_text entry (Schema fault) = ⊥
+LacksEntry limit file null_text entry Absent = ⊥
+LacksEntry limit file null_text entry Elsewhere = entry.kind ≢ kind.Table
+LacksEntry limit file null_text entry Keyed = (definition_of entry.statement).known ≡ false
+LacksEntry limit file null_text entry Computed = (definition_of entry.statement).computed ≡ true
+LacksEntry limit file null_text entry (Table fault) = LacksRows limit file entry.root (definition_with null_text entry.statement) fault
 
-abbrev pub LacksListed : List ℕ → List ℕ → Text → DatabaseFault → Type 0
-LacksListed file name null_text fault = (entry : Entry) × IsListed file name entry × LacksEntry file null_text entry fault
+abbrev pub LacksListed : Option ℕ → List ℕ → List ℕ → Text → DatabaseFault → Type 0
+LacksListed limit file name null_text fault = (entry : Entry) × IsListed file name entry × LacksEntry limit file null_text entry fault
 
 -- why the rows of a table aren't shown
-abbrev pub LacksTable : List ℕ → List ℕ → Text → DatabaseFault → Type 0
-LacksTable file name null_text Database = has_header file ≡ false
-LacksTable file name null_text Encoding = has_encoding file ≡ false
-LacksTable file name null_text (Schema fault) = LacksRows file 1 schema_definition fault
-LacksTable file name null_text Absent = (rows : List (List Text)) × AreListed file rows × (find name rows ≡ None)
-LacksTable file name null_text Elsewhere = LacksListed file name null_text Elsewhere
-LacksTable file name null_text Keyed = LacksListed file name null_text Keyed
-LacksTable file name null_text Computed = LacksListed file name null_text Computed
-LacksTable file name null_text (Table row.Damage) = LacksListed file name null_text (Table row.Damage)
-LacksTable file name null_text (Table row.Default) = LacksListed file name null_text (Table row.Default)
-LacksTable file name null_text (Table (row.Encoding at)) = LacksListed file name null_text (Table (row.Encoding at))
-LacksTable file name null_text (Table row.Memory) = ⊤
+abbrev pub LacksTable : Option ℕ → List ℕ → List ℕ → Text → DatabaseFault → Type 0
+LacksTable limit file name null_text Database = has_header file ≡ false
+LacksTable limit file name null_text Encoding = has_encoding file ≡ false
+LacksTable limit file name null_text (Schema fault) = LacksRows None file 1 schema_definition fault
+LacksTable limit file name null_text Absent = (rows : List (List Text)) × AreListed file rows × (find name rows ≡ None)
+LacksTable limit file name null_text Elsewhere = LacksListed limit file name null_text Elsewhere
+LacksTable limit file name null_text Keyed = LacksListed limit file name null_text Keyed
+LacksTable limit file name null_text Computed = LacksListed limit file name null_text Computed
+LacksTable limit file name null_text (Table row.Damage) = LacksListed limit file name null_text (Table row.Damage)
+LacksTable limit file name null_text (Table row.Default) = LacksListed limit file name null_text (Table row.Default)
+LacksTable limit file name null_text (Table (row.Encoding at)) = LacksListed limit file name null_text (Table (row.Encoding at))
+LacksTable limit file name null_text (Table row.Memory) = ⊤
 
 abbrev pub LacksListing : List ℕ → DatabaseFault → Type 0
 LacksListing file Database = has_header file ≡ false
 LacksListing file Encoding = has_encoding file ≡ false
-LacksListing file (Schema fault) = LacksRows file 1 schema_definition fault ⊎ ((schema : List (List Text)) × AreListed file schema × LacksEntries schema fault)
+LacksListing file (Schema fault) = LacksRows None file 1 schema_definition fault ⊎ ((schema : List (List Text)) × AreListed file schema × LacksEntries schema fault)
 LacksListing file Absent = ⊥
 LacksListing file Elsewhere = ⊥
 LacksListing file Keyed = ⊥

@@ -22,7 +22,7 @@ use Rattle.sqlite_format.specs.declared.kind.Tree.{Tree}
 use Rattle.sqlite_record.specs.Affinity.{as_real}
 use Rattle.sqlite_record.specs.Record.{decode}
 use Rattle.ruled_database.specs.Files.{page_count}
-use Rattle.ruled_database.specs.Trees.{Gives, Read, all, Stored, record_of, rows_below}
+use Rattle.ruled_database.specs.Trees.{Gives, Read, all, Stored, first_of, record_of, rows_below, sound_rows}
 use Rattle.ruled_database.specs.declared.definition.Column.{Column}
 use Rattle.ruled_database.specs.declared.definition.Definition.{Definition}
 use Rattle.ruled_database.specs.declared.definition.Shown.{Shown}
@@ -150,34 +150,28 @@ most_levels = 20
 abbrev pub IsUnsound : {X : Type 0} → List ℕ → Read (List X) → Type 0
 IsUnsound file read = (read.1 ≡ None) ⊎ (page_count file < read.0)
 
--- the rows of the tree that begins at this page
-pub record AreRows (file : List ℕ) (root : ℕ) (definition : Definition) (rows : List (List (List ℕ))) : Type 0 where
-  pub stored : List Stored
-  pub walked : (rows_below file definition.tree most_levels root).1 ≡ Some stored
-  pub shown : (shown_rows_of file definition stored).1 ≡ Some rows
+-- the first so many rows of the tree that begins at this page, if not all, and whether there is no fault before their end
+abbrev pub tree_rows : Option ℕ → List ℕ → Tree → ℕ → List Stored × Bool
+tree_rows limit file tree root = first_of limit (sound_rows (page_count file) (rows_below file tree most_levels root))
 
--- its pages, or those of its rows
-abbrev pub IsDamaged : List ℕ → ℕ → Definition → Type 0
-IsDamaged file root definition =
-    IsUnsound file (rows_below file definition.tree most_levels root)
-    ⊎ ((stored : List Stored) × ((rows_below file definition.tree most_levels root).1 ≡ Some stored) × IsUnsound file (shown_rows_of file definition stored))
+-- these, as they are shown
+pub record AreRows (limit : Option ℕ) (file : List ℕ) (root : ℕ) (definition : Definition) (rows : List (List (List ℕ))) : Type 0 where
+  pub sound : (tree_rows limit file definition.tree root).1 ≡ true
+  pub shown : (shown_rows_of file definition (tree_rows limit file definition.tree root).0).1 ≡ Some rows
 
--- one of the rows of the tree
-abbrev pub HasRow : List ℕ → Tree → ℕ → (Stored → Type 0) → Type 0
-HasRow file tree root Is = (stored : List Stored) × ((rows_below file tree most_levels root).1 ≡ Some stored) × Any Is stored
+-- the pages of the tree, or those of its rows
+abbrev pub IsDamaged : Option ℕ → List ℕ → ℕ → Definition → Type 0
+IsDamaged limit file root definition =
+    ((tree_rows limit file definition.tree root).1 ≡ false) ⊎ IsUnsound file (shown_rows_of file definition (tree_rows limit file definition.tree root).0)
 
--- what the walk through a tree gives
-abbrev pub Walks : {P : Type 0} → (P → List Stored) → List ℕ → Tree → ℕ → Result P TableFault → Type 0
-Walks shown file tree root (Ok it) = (rows_below file tree most_levels root).1 ≡ Some (shown it)
-Walks shown file tree root (Err Damage) = IsUnsound file (rows_below file tree most_levels root)
-Walks shown file tree root (Err Default) = ⊥
-Walks shown file tree root (Err (fault.Encoding row)) = ⊥
-Walks shown file tree root (Err Memory) = Unit {0}
+-- one of the rows
+abbrev pub HasRow : Option ℕ → List ℕ → Tree → ℕ → (Stored → Type 0) → Type 0
+HasRow limit file tree root Is = Any Is (tree_rows limit file tree root).0
 
--- the rows of a table stand behind others
-abbrev pub AddsRows : {U : Type 0} → List ℕ → ℕ → Definition → List (List (List ℕ)) → List (List (List ℕ)) → Result U TableFault → Type 0
-AddsRows file root definition old new (Ok x) = (rows : List (List (List ℕ))) × AreRows file root definition rows × (new ≡ old ++ rows)
-AddsRows file root definition old new (Err Damage) = IsDamaged file root definition
-AddsRows file root definition old new (Err Default) = HasRow file definition.tree root (IsOld file definition)
-AddsRows file root definition old new (Err (fault.Encoding row)) = HasRow file definition.tree root (HasWrongText file definition)
-AddsRows file root definition old new (Err Memory) = Unit {0}
+-- the rows stand behind others
+abbrev pub AddsRows : {U : Type 0} → Option ℕ → List ℕ → ℕ → Definition → List (List (List ℕ)) → List (List (List ℕ)) → Result U TableFault → Type 0
+AddsRows limit file root definition old new (Ok x) = (rows : List (List (List ℕ))) × AreRows limit file root definition rows × (new ≡ old ++ rows)
+AddsRows limit file root definition old new (Err Damage) = IsDamaged limit file root definition
+AddsRows limit file root definition old new (Err Default) = HasRow limit file definition.tree root (IsOld file definition)
+AddsRows limit file root definition old new (Err (fault.Encoding row)) = HasRow limit file definition.tree root (HasWrongText file definition)
+AddsRows limit file root definition old new (Err Memory) = Unit {0}

@@ -1,15 +1,17 @@
 -- The rows of a tree, from left to right, and what reading them does.
-use Rattle.std.specs.Prelude.{ℕ, ◌+◌, List, [], ◌∷◌, ◌++◌, Option, Some, None, Bool, zero, suc, ◌-◌, ◌==◌, true, length, map, take, drop, if◌then◌else◌, ◌≡◌, ◌<◌, ◌⊎◌, Result, Ok, Err}
+use Rattle.std.specs.Prelude.{ℕ, ⊤, ◌+◌, List, [], ◌∷◌, ◌++◌, Option, Some, None, Bool, zero, suc, ◌-◌, ◌==◌, true, false, length, map, take, drop, if◌then◌else◌, ◌≡◌, ◌<◌, ◌⊎◌, Result, Ok, Err, nat_le}
 use Rattle.std.specs.Option.{option_map_or, option_and_then}
-use Rattle.std.specs.List.{range_with_len}
+use Rattle.std.specs.List.{flat_map, range_with_len}
 use Rattle.sqlite_format.specs.Bytes.{u32_at}
 use Rattle.sqlite_format.specs.Cell.{body_key, cell_body, cell_child, first_overflow, local_part, spilled_len}
 use Rattle.sqlite_format.specs.Kinds.{holds_rows}
 use Rattle.sqlite_format.specs.Page.{cell_count, right_child}
 use Rattle.sqlite_format.specs.declared.kind.Tree.{Tree}
-use Rattle.ruled_database.specs.Files.{TreePage, cell_at, header_at, page, tree_page}
+use Rattle.ruled_database.specs.Files.{TreePage, cell_at, header_at, page, page_of, tree_page}
 use Rattle.ruled_database.specs.declared.fault.TableFault.{TableFault}
 use Rattle.ruled_database.specs.declared.fault.TableFault.TheVariants.{Damage, Default, Encoding, Memory}
+use Rattle.ruled_database.specs.declared.tree.Cursor.{Cursor}
+use Rattle.ruled_database.specs.declared.tree.Level.{Level}
 use Rattle.ruled_database.specs.declared.tree.StoredRow.{StoredRow}
 
 -- ---- reading parts, one behind the other
@@ -62,26 +64,35 @@ abbrev pub stored_in : Tree → ℕ → List ℕ → Stored
 stored_in tree size body =
     record { key = body_key tree true body; local = local_part tree size body; spilled = spilled_len tree size body; overflow = first_overflow tree size body }
 
+-- what a walk through a tree meets: a page, a row, or a part that isn't sound
+pub data Step : Type 0 where
+  a_page : Step
+  a_row : Stored → Step
+  a_fault : Step
+
+-- what it meets in a value, without which the part isn't sound
+abbrev pub steps_in : {X : Type 0} → (X → List Step) → Option X → List Step
+steps_in steps value = option_map_or steps value (a_fault ∷ [])
+
 -- the rows below a child, which a leaf doesn't have
-abbrev pub rows_of_child : (ℕ → Read (List Stored)) → Bool → ℕ → Read (List Stored)
-rows_of_child below leaf number = if leaf then given [] else below number
+abbrev pub rows_of_child : (ℕ → List Step) → Bool → ℕ → List Step
+rows_of_child below leaf number = if leaf then [] else below number
 
 -- the row that a cell itself holds
-abbrev pub own_row : TreePage → List ℕ → List Stored
-own_row page cell = if holds_rows page.kind then stored_in page.kind.tree (length page.bytes) (cell_body page.kind (length page.bytes) cell) ∷ [] else []
+abbrev pub own_row : TreePage → List ℕ → List Step
+own_row page cell = if holds_rows page.kind then a_row (stored_in page.kind.tree (length page.bytes) (cell_body page.kind (length page.bytes) cell)) ∷ [] else []
 
 -- the rows of a cell: those below its child, and its own
-abbrev pub rows_of_cell : (ℕ → Read (List Stored)) → TreePage → List ℕ → Read (List Stored)
-rows_of_cell below page cell = both (rows_of_child below page.kind.leaf (cell_child cell)) (given (own_row page cell))
+abbrev pub rows_of_cell : (ℕ → List Step) → TreePage → List ℕ → List Step
+rows_of_cell below page cell = rows_of_child below page.kind.leaf (cell_child cell) ++ own_row page cell
 
-abbrev pub rows_at : (ℕ → Read (List Stored)) → TreePage → ℕ → Read (List Stored)
-rows_at below page place = where_some (rows_of_cell below page) (cell_at page place)
+abbrev pub rows_at : (ℕ → List Step) → TreePage → ℕ → List Step
+rows_at below page place = steps_in (rows_of_cell below page) (cell_at page place)
 
--- the rows of a page: those of its cells, and those below its last child
-abbrev pub rows_of_page : (ℕ → Read (List Stored)) → TreePage → Read (List Stored)
-rows_of_page below page =
-    both (all (map (rows_at below page) (range_with_len 0 (cell_count page.bytes page.header))))
-    (rows_of_child below page.kind.leaf (right_child page.bytes page.header))
+-- the rows of the cells of a page from one on, and those below its last child
+abbrev pub rows_from : (ℕ → List Step) → TreePage → ℕ → List Step
+rows_from below page place =
+    flat_map (rows_at below page) (range_with_len place (cell_count page.bytes page.header - place)) ++ rows_of_child below page.kind.leaf (right_child page.bytes page.header)
 
 module _ (file : List ℕ) (tree : Tree) where
   -- a page by its number
@@ -89,9 +100,23 @@ module _ (file : List ℕ) (tree : Tree) where
   page_at number = option_and_then (λ bytes. tree_page tree bytes (header_at number)) (page file number)
 
   -- the rows of the page of this number and of those below it, in so many levels at most
-  unfoldable pub rows_below : ℕ → ℕ → Read (List Stored)
-  rows_below zero number = damaged
-  rows_below (suc levels) number = both one_page (where_some (rows_of_page (rows_below levels)) (page_at number))
+  unfoldable pub rows_below : ℕ → ℕ → List Step
+  rows_below zero number = a_fault ∷ []
+  rows_below (suc levels) number = a_page ∷ steps_in (λ page. rows_from (rows_below levels) page 0) (page_at number)
+
+-- ---- reading the rows of a tree
+
+-- the rows before the first fault, and whether there is none; a page behind so many is one, too
+abbrev pub sound_rows : ℕ → List Step → List Stored × Bool
+sound_rows pages [] = ([], true)
+sound_rows pages (a_page ∷ steps) = if pages == 0 then ([], false) else sound_rows (pages - 1) steps
+sound_rows pages (a_row row ∷ steps) = (row ∷ (sound_rows pages steps).0, (sound_rows pages steps).1)
+sound_rows pages (a_fault ∷ steps) = ([], false)
+
+-- the first so many of them, if not all: what is behind them need not be sound
+abbrev pub first_of : Option ℕ → List Stored × Bool → List Stored × Bool
+first_of None rows = rows
+first_of (Some limit) rows = if nat_le limit (length rows.0) then (take limit rows.0, true) else rows
 
 module _ (file : List ℕ) where
   -- so many bytes of a chain of overflow pages, each of which begins with the number of the next one
@@ -125,7 +150,39 @@ GivesPage shown found before after (Err Default) = ⊥
 GivesPage shown found before after (Err (Encoding row)) = ⊥
 GivesPage shown found before after (Err Memory) = Unit {0}
 
--- ---- the row that a row of the walk is
+-- ---- the rows that a cursor has still to give
 
 abbrev pub stored_of : StoredRow → Stored
 stored_of row = record { key = row.key; local = row.payload.local.now; spilled = row.payload.spilled; overflow = row.payload.overflow }
+
+abbrev pub row_step : Option StoredRow → List Step
+row_step None = []
+row_step (Some row) = a_row (stored_of row) ∷ []
+
+-- those of a level
+abbrev pub steps_of : List ℕ → Tree → Level → List Step
+steps_of file tree level = row_step level.row ++ rows_from (rows_below file tree level.below) (page_of level.node) level.place
+
+-- those of the levels, of which the last is the deepest
+abbrev pub steps_of_all : List ℕ → Tree → List Level → List Step
+steps_of_all file tree [] = []
+steps_of_all file tree (level ∷ deeper) = steps_of_all file tree deeper ++ steps_of file tree level
+
+-- a part of a tree, and behind it all that is still to come
+abbrev pub rows_behind : List Step → Cursor → List Stored × Bool
+rows_behind steps cursor = sound_rows cursor.left (steps ++ steps_of_all cursor.file.bytes.now cursor.tree cursor.levels.items)
+
+abbrev pub rows_to_come : Cursor → List Stored × Bool
+rows_to_come cursor = first_of cursor.limit (rows_behind [] cursor)
+
+-- a row before others
+abbrev pub with_row : Option StoredRow → List Stored × Bool → List Stored × Bool
+with_row None rows = rows
+with_row (Some row) rows = (stored_of row ∷ rows.0, rows.1)
+
+-- why there is none
+abbrev pub LacksRow : List Stored × Bool → TableFault → Type 0
+LacksRow rows Damage = rows ≡ ([], false)
+LacksRow rows Default = ⊥
+LacksRow rows (Encoding at) = ⊥
+LacksRow rows Memory = ⊤

@@ -3,7 +3,6 @@
 ghost use Rattle.std.specs.Prelude.{◌≡◌, ◌≤◌, length, slice_index, false, true, MatchOption, option_map, ⊤, ◌<◌, drop, IfSome};
 ghost use Rattle.sqlite_pages.specs.PageMap.{IsUsableSize};
 ghost use Rattle.ruled_database.specs.Files as spec;
-ghost use Rattle.ruled_database.specs.Tables.{encoding_of};
 ghost use Rattle.ruled_database.specs.Files.{has_encoding, cell_at, of_kind, page_of, tree_page};
 ghost use Rattle.sqlite_format.specs.Cell.{cell_size};
 ghost use Rattle.sqlite_format.specs.Kinds.{page_flag};
@@ -51,6 +50,8 @@ fn page_size(bytes: &[u8]) -> usize
 }
 
 impl<'a> File<'a> {
+    ghost use Rattle.ruled_database.specs.Tables.{encoding_of};
+
     #[tactic(auto, unfolding(crate::specs::Files::has_header))]
     /// The file of these bytes, where they begin with the header of a database.
     pub(crate) fn of(bytes: &'a [u8]) -> Option<File<'a>>

@@ -117,7 +117,7 @@ fn schema_rows(alloc: Global, file: File<'_>) -> Result<Vec<TextRow>, DatabaseFa
 {
     let definition = definition_of(alloc, SCHEMA)?;
     let mut rows = Vec::new(alloc);
-    match push_rows(alloc, file, 1, &definition, &mut rows) {
+    match push_rows(alloc, file, 1, &definition, None, &mut rows) {
         Ok(()) => Ok(rows),
         Err(fault) => Err(DatabaseFault::Schema(fault)),
     }
@@ -146,21 +146,22 @@ fn stored_definition(
     Ok(definition)
 }
 
-// The rows of the table that begins at this page, with the names of its columns as row 0.
+// The first so many rows of the table that begins at this page, if not all, below the names of its columns.
 #[tactic(auto, using(crate::proofs::Tabling::lacks_added, crate::proofs::Tabling::lacks_names))]
 fn rows_of(
     alloc: Global,
     file: File<'_>,
     root: u32,
     definition: &Definition,
+    limit: Option<usize>,
 ) -> Result<Vec<TextRow>, TableFault>
-    ensures rows { IfOk result (λ rows. spec.AreNamedRows file.entry.bytes.now root definition.now (map fields_of rows.items)) }
-    ensures fault { IfErr result (spec.LacksRows file.entry.bytes.now root definition.now) }
+    ensures rows { IfOk result (λ rows. spec.AreNamedRows limit file.entry.bytes.now root definition.now (map fields_of rows.items)) }
+    ensures fault { IfErr result (spec.LacksRows limit file.entry.bytes.now root definition.now) }
 {
     let mut rows = Vec::new(alloc);
     let names = names_of(alloc, definition.columns.as_slice())?;
     rows.push(names)?;
-    push_rows(alloc, file, root, definition, &mut rows)?;
+    push_rows(alloc, file, root, definition, limit, &mut rows)?;
     Ok(rows)
 }
 
@@ -178,23 +179,25 @@ fn file_of(bytes: &[u8]) -> Result<File<'_>, DatabaseFault>
     }
 }
 
-// The rows of an entry of the schema, with this text for NULL.
+// The first so many rows of an entry of the schema, if not all, with this text for NULL.
 #[tactic(auto, using(crate::proofs::Tabling::lacks_by_definition, crate::proofs::Tabling::lacks_by_rows))]
 fn entry_rows(
     alloc: Global,
     file: File<'_>,
     null: &str,
     listed: Listed<'_>,
+    limit: Option<usize>,
 ) -> Result<Vec<TextRow>, DatabaseFault>
-    ensures rows { IfOk result (λ rows. AreEntryRows file.entry.bytes.now null.now (entry_of listed.entry) (map fields_of rows.items)) }
-    ensures fault { IfErr result (LacksEntry file.entry.bytes.now null.now (entry_of listed.entry)) }
+    ensures rows { IfOk result (λ rows. AreEntryRows limit file.entry.bytes.now null.now (entry_of listed.entry) (map fields_of rows.items)) }
+    ensures fault { IfErr result (LacksEntry limit file.entry.bytes.now null.now (entry_of listed.entry)) }
 {
     let definition = stored_definition(alloc, null, listed)?;
-    let rows = rows_of(alloc, file, listed.root, &definition)?;
+    let rows = rows_of(alloc, file, listed.root, &definition, limit)?;
     Ok(rows)
 }
 
-/// All rows of a table of the database that the bytes of its file hold, with the names of the columns as row 0.
+/// The first so many rows of a table of the database that the bytes of its file hold, if not all, below the names of its
+/// columns. What is behind them isn't read, and need not be sound.
 ///
 /// A value is shown as by [`crate::push_value`], NULL as `null`. Of the schema's statements, only that of this table is read, and
 /// of that only the columns.
@@ -203,14 +206,15 @@ pub fn table_rows(
     bytes: &[u8],
     name: &str,
     null: &str,
+    limit: Option<usize>,
 ) -> Result<Vec<TextRow>, DatabaseFault>
-    ensures rows { IfOk result (λ rows. AreTable bytes.now name.now null.now (map fields_of rows.items)) }
-    ensures fault { IfErr result (LacksTable bytes.now name.now null.now) }
+    ensures rows { IfOk result (λ rows. AreTable limit bytes.now name.now null.now (map fields_of rows.items)) }
+    ensures fault { IfErr result (LacksTable limit bytes.now name.now null.now) }
 {
     let file = file_of(bytes)?;
     let schema = schema_rows(alloc, file)?;
     match find(&schema, name) {
-        Some(listed) => entry_rows(alloc, file, null, listed),
+        Some(listed) => entry_rows(alloc, file, null, listed, limit),
         None => Err(DatabaseFault::Absent),
     }
 }

@@ -11,7 +11,7 @@ use crate::definition::{Column, Definition, Shown};
 use crate::fault::TableFault;
 use crate::file::File;
 use crate::overflow::Overflow;
-use crate::tree::{StoredRow, stored_rows};
+use crate::tree::{Cursor, StoredRow};
 use crate::value::{push_value, row_of};
 use ruled_row::{RowBuffer, TextRow};
 use sqlite_format::cell::toggle_sign;
@@ -126,29 +126,31 @@ impl<'a> RowReader<'a> {
     }
 }
 
-/// Appends the rows of the tree that begins at this page.
+/// Appends the first so many rows of the tree that begins at this page, if not all. No page behind them is read.
 pub(crate) fn push_rows(
     alloc: Global,
     file: File<'_>,
     root: u32,
     definition: &Definition,
+    limit: Option<usize>,
     rows: &mut Vec<TextRow>,
 ) -> Result<(), TableFault>
-    ensures { AddsRows file.entry.bytes.now root definition.now (map fields_of rows.old.items) (map fields_of rows.new.items) result }
+    ensures { AddsRows limit file.entry.bytes.now root definition.now (map fields_of rows.old.items) (map fields_of rows.new.items) result }
 {
-    let stored = stored_rows(alloc, file, definition.tree, root)?;
+    let mut stored = Cursor::of(alloc, file, definition.tree, root, limit)?;
     let mut reader = RowReader {
         overflow: Overflow::of(file),
         record: Vec::new(alloc),
         values: Row::new(alloc),
         texts: RowBuffer::new(alloc),
     };
-    for row in &stored {
-        reader.push_row(alloc, definition, row, rows)?;
+    while let Some(row) = stored.next()? {
+        reader.push_row(alloc, definition, &row, rows)?;
     }
     Ok(())
 }
 
+#[tactic(auto, using(crate::proofs::Tabling::text_more))]
 /// The names of columns.
 pub(crate) fn names_of(alloc: Global, columns: &[Column]) -> Result<TextRow, TableFault>
     ensures fields { IfOk result (λ fields. fields_of fields ≡ names_in columns.now) }

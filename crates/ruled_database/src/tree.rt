@@ -1,11 +1,11 @@
 //! The rows of a tree, as it stores them.
 
-ghost use Rattle.std.specs.Prelude.{◌≡◌, ◌<◌, ◌≤◌, ℕ, length, map, true, IsSomeAnd};
+ghost use Rattle.std.specs.Prelude.{◌≡◌, ◌<◌, ◌≤◌, ◌+◌, ◌*◌, ℕ, None, [], length, option_map, true, IfErr, IfOk, IsSomeAnd};
 ghost use Rattle.sqlite_format.specs.Cell.{IsBody, body_key, cell_body, cell_size};
 ghost use Rattle.sqlite_format.specs.Kinds.{holds_rows};
 ghost use Rattle.ruled_database.specs.Files.{page_of};
-ghost use Rattle.ruled_database.specs.Trees.{given, Gives, GivesPage, stored_of, own_row, page_at, rows_at, rows_below, rows_of_child, stored_in};
-ghost use Rattle.ruled_database.specs.Tables.{Walks};
+ghost use Rattle.ruled_database.specs.Trees.{LacksRow, own_row, page_at, row_step, rows_behind, rows_below, rows_to_come, steps_of, stored_in, stored_of, with_row};
+ghost use Rattle.ruled_database.specs.Tables.{tree_rows};
 
 use crate::fault::TableFault;
 use crate::file::{File, cell_of, node_of};
@@ -46,116 +46,182 @@ fn row_of<'a>(node: &Node<'a>, cell: &'a [u8]) -> Option<StoredRow<'a>>
     Some(StoredRow { key, payload })
 }
 
-/// A walk through a tree, from left to right.
-#[derive(Drop)]
-pub(crate) struct Walk<'a> {
-    file: File<'a>,
-    tree: Tree,
-    /// How many pages may still be read: no tree of a sound file has more of them than the file.
-    left: usize,
-    /// The rows so far.
-    rows: Vec<StoredRow<'a>>,
+// The row that a cell itself holds, if it holds one.
+fn own_row<'a>(node: &Node<'a>, cell: &'a [u8]) -> Option<StoredRow<'a>>
+    requires { cell_size node.now.kind (length node.now.bytes.now) cell.now ≤ length cell.now }
+    ensures { row_step result ≡ own_row (page_of node.now) cell.now }
+{
+    if node.kind.holds_rows() {
+        row_of(node, cell)
+    } else {
+        None
+    }
 }
 
-impl<'a> Walk<'a> {
-    // The page of this number, which is one less to read.
-    fn node(&mut self, number: u32) -> Result<Node<'a>, TableFault>
-        ensures file { self.new.file ≡ self.old.file }
-        ensures tree { self.new.tree ≡ self.old.tree }
-        ensures rows { self.new.rows ≡ self.old.rows }
-        ensures page { GivesPage page_of (page_at self.old.file.bytes.now self.old.tree number) self.old.left self.new.left result }
-    {
-        if self.left == 0 {
-            return Err(TableFault::Damage);
-        }
-        self.left -= 1;
-        let bytes = self.file.page(number).ok_or(TableFault::Damage)?;
-        let header = if number == 1 { 100 } else { 0 };
-        node_of(self.tree, bytes, header).ok_or(TableFault::Damage)
-    }
+// The page of this number.
+fn node_at(file: File<'_>, tree: Tree, number: u32) -> Option<Node<'_>>
+    ensures { option_map page_of result ≡ page_at file.entry.bytes.now tree number }
+{
+    let bytes = file.page(number)?;
+    let header = if number == 1 { 100 } else { 0 };
+    node_of(tree, bytes, header)
+}
 
-    // Adds the row that a cell itself holds.
-    fn push_own(&mut self, node: &Node<'a>, cell: &'a [u8]) -> Result<(), TableFault>
-        requires { cell_size node.now.kind (length node.now.bytes.now) cell.now ≤ length cell.now }
-        ensures file { self.new.file ≡ self.old.file }
-        ensures tree { self.new.tree ≡ self.old.tree }
-        ensures rows { Gives (given (own_row (page_of node.now) cell.now))
-            self.old.left self.new.left (map stored_of self.old.rows.items) (map stored_of self.new.rows.items) result }
-    {
-        if !node.kind.holds_rows() {
-            return Ok(());
-        }
-        let row = row_of(node, cell).ok_or(TableFault::Damage)?;
-        self.rows.push(row)?;
-        Ok(())
-    }
-
-    // Reads the rows below a child, which a leaf doesn't have.
-    #[cycle(walk)]
-    fn read_child(&mut self, levels: usize, leaf: bool, number: u32) -> Result<(), TableFault>
-        ensures file { self.new.file ≡ self.old.file }
-        ensures tree { self.new.tree ≡ self.old.tree }
-        ensures rows { Gives (rows_of_child (rows_below self.old.file.bytes.now self.old.tree levels) leaf number)
-            self.old.left self.new.left (map stored_of self.old.rows.items) (map stored_of self.new.rows.items) result }
-    {
-        if leaf {
-            Ok(())
-        } else {
-            self.read_rows(levels, number)
-        }
-    }
-
-    // Reads the rows of a cell.
-    #[cycle(walk)]
-    fn read_cell(&mut self, levels: usize, node: &Node<'a>, place: usize) -> Result<(), TableFault>
-        requires { place < node.now.count }
-        ensures file { self.new.file ≡ self.old.file }
-        ensures tree { self.new.tree ≡ self.old.tree }
-        ensures rows { Gives (rows_at (rows_below self.old.file.bytes.now self.old.tree levels) (page_of node.now) place)
-            self.old.left self.new.left (map stored_of self.old.rows.items) (map stored_of self.new.rows.items) result }
-    {
-        let cell = cell_of(node, place).ok_or(TableFault::Damage)?;
-        self.read_child(levels, node.kind.leaf, get_u32(cell, 0))?;
-        self.push_own(node, cell)
-    }
-
-    // Reads the rows of the page of this number and of those below it.
-    #[cycle(walk)]
-    fn read_rows(&mut self, levels: usize, number: u32) -> Result<(), TableFault>
-        ensures file { self.new.file ≡ self.old.file }
-        ensures tree { self.new.tree ≡ self.old.tree }
-        ensures rows { Gives (rows_below self.old.file.bytes.now self.old.tree levels number)
-            self.old.left self.new.left (map stored_of self.old.rows.items) (map stored_of self.new.rows.items) result }
-    {
-        if levels == 0 {
-            return Err(TableFault::Damage);
-        }
-        let node = self.node(number)?;
-        for place in 0..node.count {
-            self.read_cell(levels - 1, &node, place)?;
-        }
-        self.read_child(levels - 1, node.kind.leaf, node.right())
-    }
+/// A page of a tree, of which a part is still to be read.
+#[derive(Clone, Copy)]
+pub(crate) struct Level<'a> {
+    node: Node<'a>,
+    /// How many levels of pages there may be below it.
+    below: usize,
+    /// How many of its cells have been read.
+    place: usize,
+    /// The row of the last of these, where the rows below its child come first.
+    row: Option<StoredRow<'a>>,
 }
 
 /// How many levels of pages a tree has at most.
 const LEVELS: usize = 20;
 
-/// The rows of the tree that begins at this page.
-pub(crate) fn stored_rows<'a>(
-    alloc: Global,
+/// The rows of a tree, from left to right. Each page is read once, when its first row is.
+#[derive(Drop)]
+pub(crate) struct Cursor<'a> {
     file: File<'a>,
     tree: Tree,
-    root: u32,
-) -> Result<Vec<StoredRow<'a>>, TableFault>
-    ensures { Walks (λ rows. map stored_of rows.items) file.entry.bytes.now tree root result }
-{
-    let mut walk = Walk {
-        file,
-        tree,
-        left: file.pages(),
-        rows: Vec::new(alloc),
-    };
-    walk.read_rows(LEVELS, root)?;
-    Ok(walk.rows)
+    /// How many rows are still wanted, if not all.
+    limit: Option<usize>,
+    /// How many pages may still be read: no tree of a sound file has more of them than the file.
+    left: usize,
+    /// The pages that are read in part, of which the last is the deepest.
+    levels: Vec<Level<'a>>,
+}
+
+impl<'a> Cursor<'a> {
+    /// The first so many rows of the tree that begins at this page, if not all.
+    pub(crate) fn of(
+        alloc: Global,
+        file: File<'a>,
+        tree: Tree,
+        root: u32,
+        limit: Option<usize>,
+    ) -> Result<Cursor<'a>, TableFault>
+        ensures file { IfOk result (λ cursor. cursor.file ≡ file.entry) }
+        ensures rows { IfOk result (λ cursor. rows_to_come cursor ≡ tree_rows limit file.entry.bytes.now tree root) }
+        ensures fault { IfErr result (LacksRow (tree_rows limit file.entry.bytes.now tree root)) }
+    {
+        let mut cursor = Cursor {
+            file,
+            tree,
+            limit,
+            left: file.pages(),
+            levels: Vec::new(alloc),
+        };
+        if let Some(0) = limit {
+            return Ok(cursor);
+        }
+        cursor.open(LEVELS, root)?;
+        Ok(cursor)
+    }
+
+    // Reads the page of this number, whose rows come next.
+    fn open(&mut self, levels: usize, number: u32) -> Result<(), TableFault>
+        ensures file { self.new.file ≡ self.old.file }
+        ensures tree { self.new.tree ≡ self.old.tree }
+        ensures limit { self.new.limit ≡ self.old.limit }
+        ensures rows { IfOk result (λ x. rows_behind (rows_below self.old.file.bytes.now self.old.tree levels number) self.old ≡ rows_behind [] self.new) }
+        ensures fault { IfErr result (LacksRow (rows_behind (rows_below self.old.file.bytes.now self.old.tree levels number) self.old)) }
+        ensures fewer { IfOk result (λ x. 2 * self.new.left + length self.new.levels.items < 2 * self.old.left + length self.old.levels.items) }
+    {
+        if levels == 0 || self.left == 0 {
+            return Err(TableFault::Damage);
+        }
+        self.left -= 1;
+        let node = node_at(self.file, self.tree, number).ok_or(TableFault::Damage)?;
+        self.levels.push(Level {
+            node,
+            below: levels - 1,
+            place: 0,
+            row: None,
+        })?;
+        Ok(())
+    }
+
+    // Reads the next cell of a page: its row, or the page of its child.
+    fn read_cell(&mut self, mut level: Level<'a>) -> Result<Option<StoredRow<'a>>, TableFault>
+        requires place { level.place < level.node.count }
+        requires row { level.row ≡ None }
+        ensures file { self.new.file ≡ self.old.file }
+        ensures tree { self.new.tree ≡ self.old.tree }
+        ensures limit { self.new.limit ≡ self.old.limit }
+        ensures rows { IfOk result (λ row. rows_behind (steps_of self.old.file.bytes.now self.old.tree level.entry) self.old ≡ with_row row (rows_behind [] self.new)) }
+        ensures fault { IfErr result (LacksRow (rows_behind (steps_of self.old.file.bytes.now self.old.tree level.entry) self.old)) }
+        ensures fewer { IfOk result (λ row. row ≡ None → 2 * self.new.left + length self.new.levels.items ≤ 2 * self.old.left + length self.old.levels.items) }
+    {
+        let cell = cell_of(&level.node, level.place).ok_or(TableFault::Damage)?;
+        let row = own_row(&level.node, cell);
+        level.place += 1;
+        if level.node.kind.leaf {
+            self.levels.push(level)?;
+            return Ok(row);
+        }
+        level.row = row;
+        self.levels.push(level)?;
+        self.open(level.below, get_u32(cell, 0))?;
+        Ok(None)
+    }
+
+    // Reads on in a page: the row that is next, or the page that is next.
+    fn read_level(&mut self, mut level: Level<'a>) -> Result<Option<StoredRow<'a>>, TableFault>
+        ensures file { self.new.file ≡ self.old.file }
+        ensures tree { self.new.tree ≡ self.old.tree }
+        ensures limit { self.new.limit ≡ self.old.limit }
+        ensures rows { IfOk result (λ row. rows_behind (steps_of self.old.file.bytes.now self.old.tree level.entry) self.old ≡ with_row row (rows_behind [] self.new)) }
+        ensures fault { IfErr result (LacksRow (rows_behind (steps_of self.old.file.bytes.now self.old.tree level.entry) self.old)) }
+        ensures fewer { IfOk result (λ row. row ≡ None → 2 * self.new.left + length self.new.levels.items ≤ 2 * self.old.left + length self.old.levels.items) }
+    {
+        if let Some(row) = level.row {
+            level.row = None;
+            self.levels.push(level)?;
+            return Ok(Some(row));
+        }
+        if level.place < level.node.count {
+            return self.read_cell(level);
+        }
+        if !level.node.kind.leaf {
+            self.open(level.below, level.node.right())?;
+        }
+        Ok(None)
+    }
+
+    // The next row, if there is one more.
+    fn next_row(&mut self) -> Result<Option<StoredRow<'a>>, TableFault>
+        ensures file { self.new.file ≡ self.old.file }
+        ensures limit { self.new.limit ≡ self.old.limit }
+        ensures rows { IfOk result (λ row. rows_behind [] self.old ≡ with_row row (rows_behind [] self.new)) }
+        ensures fault { IfErr result (LacksRow (rows_behind [] self.old)) }
+        ensures end { IfOk result (λ row. row ≡ None → rows_behind [] self.old ≡ ([], true)) }
+    {
+        while let Some(level) = self.levels.pop() {
+            if let Some(row) = self.read_level(level)? {
+                return Ok(Some(row));
+            }
+        }
+        Ok(None)
+    }
+
+    /// The next row, if there is one more and it is wanted.
+    pub(crate) fn next(&mut self) -> Result<Option<StoredRow<'a>>, TableFault>
+        ensures file { self.new.file ≡ self.old.file }
+        ensures rows { IfOk result (λ row. rows_to_come self.old ≡ with_row row (rows_to_come self.new)) }
+        ensures fault { IfErr result (LacksRow (rows_to_come self.old)) }
+        ensures end { IfOk result (λ row. row ≡ None → rows_to_come self.old ≡ ([], true)) }
+    {
+        if let Some(limit) = self.limit {
+            if limit == 0 {
+                return Ok(None);
+            }
+            self.limit = Some(limit - 1);
+            return self.next_row();
+        }
+        self.next_row()
+    }
 }

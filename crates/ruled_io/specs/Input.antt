@@ -173,7 +173,7 @@ AreAnswer (Some known) query bytes rows =
 abbrev pub AreSelected : Option Selection → List ℕ → List (List Text) → Type 0
 AreSelected None bytes rows = IsListing bytes rows
 AreSelected (Some (Select query)) bytes rows = AreAnswer (known_in query.known bytes) query bytes rows
-AreSelected (Some (Table name null_text)) bytes rows = AreTable bytes (string_bytes name) (string_bytes null_text) rows
+AreSelected (Some (Table name null_text)) bytes rows = AreTable None bytes (string_bytes name) (string_bytes null_text) rows
 AreSelected (Some Tables) bytes rows = IsListing bytes rows
 
 -- why a query has no rows, where the inputs have them
@@ -202,7 +202,7 @@ LacksQueried (Some Tables) bytes fault = ⊥
 abbrev pub LacksStored : Option Selection → List ℕ → DatabaseFault → Type 0
 LacksStored None bytes fault = LacksListing bytes fault
 LacksStored (Some (Select query)) bytes fault = ⊥
-LacksStored (Some (Table name null_text)) bytes fault = LacksTable bytes (string_bytes name) (string_bytes null_text) fault
+LacksStored (Some (Table name null_text)) bytes fault = LacksTable None bytes (string_bytes name) (string_bytes null_text) fault
 LacksStored (Some Tables) bytes fault = LacksListing bytes fault
 
 -- why there are no rows, unless memory was refused

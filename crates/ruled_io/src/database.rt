@@ -121,7 +121,7 @@ fn selected_rows(
     match selection {
         Some(Selection::Query(query)) => answer_rows(alloc, query, bytes),
         Some(Selection::Table { name, null }) => {
-            Ok(table_rows(alloc, bytes, name.as_str(), null.as_str())?)
+            Ok(table_rows(alloc, bytes, name.as_str(), null.as_str(), None)?)
         }
         Some(Selection::Tables) | None => Ok(list_rows(alloc, bytes)?),
     }

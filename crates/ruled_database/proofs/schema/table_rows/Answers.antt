@@ -12,5 +12,5 @@ returns-in-Some-clause-fault c =
     let rows = map fields_of c.in_ok-schema.schema.items in
     let listed : AreListed file rows = search rules in
     let found : find c.args.name.now rows ≡ Some entry = search rules in
-    let lacks : IfErr c.entry_rows.result (LacksEntry file c.args.null.now entry) = search rules in
-    lacks_listed file c.args.name.now c.args.null.now entry c.entry_rows.result (record { rows = rows; listed = listed; found = found }) lacks
+    let lacks : IfErr c.entry_rows.result (LacksEntry c.args.limit file c.args.null.now entry) = search rules in
+    lacks_listed c.args.limit file c.args.name.now c.args.null.now entry c.entry_rows.result (record { rows = rows; listed = listed; found = found }) lacks

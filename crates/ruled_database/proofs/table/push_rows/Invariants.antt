@@ -1,14 +1,18 @@
-use Rattle.std.proofs.Common.{◌≡◌, ℕ, map, take, Ok}
+use Rattle.std.proofs.Common.{◌≡◌, ◌++◌, ℕ, List, map, length, Ok}
 use Rattle.csv.specs.Records.{fields_of}
 use Rattle.ruled_database.specs.Files.{page_count}
-use Rattle.ruled_database.specs.Trees.{all, Gives, stored_of}
-use Rattle.ruled_database.specs.Tables.{shown_row}
-use Rattle.ruled_database.specs.declared.tree.StoredRow.{StoredRow}
+use Rattle.ruled_database.specs.Trees.{Gives, Stored, rows_to_come}
+use Rattle.ruled_database.specs.Tables.{shown_rows_of, tree_rows}
 use Rattle.ruled_database.proofs.table.push_rows.Given as goal
 
-abbrev pub invariant-loop-row : goal.invariant-loop-row
-invariant-loop-row l = record {
+-- the rows that were taken are those before the ones to come
+abbrev pub invariant-loop-reader : goal.invariant-loop-reader
+invariant-loop-reader l = record {
   file : l.reader.overflow.file ≡ l.fn.file;
-  rows : Gives {U = ℕ} (all (map (λ (row : StoredRow). shown_row l.fn.file.bytes.now l.definition (stored_of row)) (take l.row-index l.row-items))) (page_count l.fn.file.bytes.now) l.reader.overflow.left
-      (map fields_of l.fn.rows.items) (map fields_of l.rows.items) (Ok 0);
+  taken : List Stored;
+  walked : tree_rows l.fn.limit l.fn.file.bytes.now l.definition.tree l.root ≡ (taken ++ (rows_to_come l.stored).0, (rows_to_come l.stored).1);
+  rows : Gives {U = ℕ} (shown_rows_of l.fn.file.bytes.now l.definition taken) (page_count l.fn.file.bytes.now) l.reader.overflow.left (map fields_of l.fn.rows.items) (map fields_of l.rows.items) (Ok 0);
 }
+
+abbrev pub decreases-loop-reader : goal.decreases-loop-reader
+decreases-loop-reader l = length (rows_to_come l.stored).0
