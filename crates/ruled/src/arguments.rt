@@ -168,7 +168,7 @@ fn lacks_numbers(words: &[String]) -> bool {
     let mut is_asking = false;
     for word in words {
         let word = word.as_str();
-        if word == "#" {
+        if word == "#" || word == "1" || word.starts_with("1-") {
             return false;
         }
         is_asking |= !word.starts_with('!');
