@@ -7,7 +7,7 @@ ghost use Rattle.std.specs.Prelude.{IfOk, string_bytes};
 ghost use Rattle.pg_table.specs.Even.{IsEvenText, IsNarrowLook};
 
 use crate::rows::rows_of;
-use pg_layout::{AlignmentHorizontal, Borders, HorizontalLine, Indent, Sides};
+use pg_layout::{Borders, HorizontalLine, Indent, Sides};
 use pg_table::{Table, TableFault};
 use std::alloc::Global;
 
@@ -21,7 +21,7 @@ const PRICES: &[&[&str]] = &[
 pub(crate) fn prices(alloc: Global) -> Result<String, TableFault>
     ensures even { IfOk result (λ text. IsEvenText (string_bytes text)) }
 {
-    let table = with_numbers_right(spaced(framed(alloc)?))?;
+    let table = spaced(framed(alloc)?).with_numbers_right()?;
     table
         .with_header_line(HorizontalLine::sharp())?
         .to_string(alloc)
@@ -47,14 +47,4 @@ fn spaced(table: Table<&'static str>) -> Table<&'static str>
         top: above,
         bottom: above,
     })
-}
-
-// Quantities and prices at the right.
-fn with_numbers_right(table: Table<&'static str>) -> Result<Table<&'static str>, TableFault>
-    requires narrow { IsNarrowLook table.config }
-    ensures narrow { IfOk result (λ table. IsNarrowLook table.config) }
-{
-    table
-        .with_column_alignment(1, AlignmentHorizontal::Right)?
-        .with_column_alignment(2, AlignmentHorizontal::Right)
 }

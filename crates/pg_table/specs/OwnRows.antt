@@ -1,6 +1,7 @@
 -- A table with rows of its own: its sizes, and the tables that its settings make of it.
 use Rattle.std.specs.Prelude.{ℕ, ◌-◌, ◌++◌, ◌∷◌, [], List, map, length, replicate, Option, ◌==◌, ◌&&◌, ◌||◌, ◌≤◌, Bool, nat_lt, if◌then◌else◌}
 use Rattle.pg_layout.specs.declared.alignment.AlignmentHorizontal.{AlignmentHorizontal}
+use Rattle.pg_layout.specs.declared.alignment.AlignmentHorizontal.TheVariants.{Right}
 use Rattle.pg_layout.specs.declared.borders.Borders.{Borders}
 use Rattle.pg_layout.specs.declared.borders.HorizontalLine.{HorizontalLine}
 use Rattle.pg_layout.specs.declared.position.Entity.{Entity}
@@ -11,13 +12,14 @@ use Rattle.pg_layout.specs.Records.{columns_of, text_at}
 use Rattle.pg_layout.specs.Sides.{spaces}
 use Rattle.pg_layout.specs.Text.{Text, greatest}
 use Rattle.pg_config.specs.Config.{Config, default_config}
-use Rattle.pg_config.specs.Settings.{with_setting}
+use Rattle.pg_config.specs.Settings.{Settings, with_setting}
+use Rattle.pg_table.specs.Numbers.{is_number_or_blank}
 use Rattle.pg_table.specs.Panels.{panelled, with_span_crossings, with_title, with_title_at}
 use Rattle.pg_table.specs.Natural.{natural_sizes}
 use Rattle.pg_table.specs.Printing.{Parts, sizes_fault, with_header_line}
 use Rattle.pg_table.specs.declared.fault.TableFault.{TableFault}
 use Rattle.pg_table.specs.declared.sizes.Axis.{Axis}
-use Rattle.std.specs.List.{range_with_len, fold, prefix_len}
+use Rattle.std.specs.List.{range_with_len, fold, list_all, prefix_len}
 use Rattle.pg_layout.specs.Position.{at}
 use Rattle.std.specs.Str.{bytes_eq}
 use Rattle.pg_config.specs.Spans.{Span, with_row_span}
@@ -83,6 +85,23 @@ captioned side caption text t = titled (length t.rows) side caption text t
 -- with the texts of some cells at this side
 abbrev pub aligned : {T : Type 0} → Entity → AlignmentHorizontal → Parts T → Parts T
 aligned entity side t = record t { config = record t.config { alignment_horizontal = with_setting entity side t.config.alignment_horizontal } }
+
+-- ---- columns of numbers: below row 0 each text is a number, or blank
+
+abbrev pub is_numeric : List (List Text) → ℕ → Bool
+is_numeric texts column = list_all (λ r. is_number_or_blank (text_at texts (at r column))) (range_with_len 1 (length texts - 1))
+
+-- such a column at the right
+abbrev pub with_number_right : List (List Text) → Settings AlignmentHorizontal → ℕ → Settings AlignmentHorizontal
+with_number_right texts settings column = if is_numeric texts column then with_setting (Column column) Right settings else settings
+
+-- and each of so many
+abbrev pub with_numbers_right : List (List Text) → ℕ → Settings AlignmentHorizontal → Settings AlignmentHorizontal
+with_numbers_right texts columns settings = fold (with_number_right texts) settings (range_with_len 0 columns)
+
+-- the table with its columns of numbers at the right
+abbrev pub numbered : {T : Type 0} → (T → Text) → Parts T → Parts T
+numbered text t = record t { config = record t.config { alignment_horizontal = with_numbers_right (texts_of text t) (columns_of t.rows) t.config.alignment_horizontal } }
 
 -- ---- runs of equal texts in a column, each of which becomes one cell
 

@@ -8,6 +8,7 @@ mod measured;
 mod narrowing;
 mod natural;
 mod needs;
+pub mod numbers;
 mod overflow;
 mod sizes;
 mod spanning;

@@ -1,18 +1,24 @@
 //! The settings of a table, and its setters by reference.
 
 ghost use Rattle.std.specs.Borrow.{sem, Lends};
-ghost use Rattle.std.specs.Prelude.{◌≡◌, true, Err, IfOk, IsOk, OnErr, OnOk};
+ghost use Rattle.std.specs.Prelude.{◌≡◌, ◌<◌, ℕ, false, true, length, Err, IfOk, IsOk, OnErr, OnOk};
 ghost use Rattle.pg_config.specs.Settings.{with_setting, HasRoom};
 ghost use Rattle.pg_table.specs.Even.{IsNarrowLook, are_line_glyphs, are_line_fills};
 ghost use Rattle.pg_config.specs.contracts.spanned.SpannedConfig.{the_row as config_row};
-ghost use Rattle.pg_table.specs.OwnRows.{aligned};
+ghost use Rattle.pg_layout.specs.Records.{columns_of};
+ghost use Rattle.pg_table.specs.OwnRows.{aligned, is_numeric, numbered, texts_of, with_number_right, with_numbers_right};
 ghost use Rattle.pg_table.specs.contracts.table.Table.{the_row};
 
 use crate::fault::TableFault;
+use crate::numbers::is_number_or_blank;
 use crate::table::Table;
 use pg_config::SpannedConfig;
-use pg_layout::{AlignmentHorizontal, Borders, ColorsMap, Entity, Indent, Sides};
+use pg_layout::{
+    AlignmentHorizontal, Borders, ColorsMap, Entity, ExactRecords, Indent, PeekableRecords,
+    Position, Sides,
+};
 use std::alloc::{AllocError, Allocator};
+use std::convert::AsStr;
 
 impl<T, A: Allocator> Table<T, A> {
     /// The settings of the table: borders, paddings, alignments, spans and everything but colours
@@ -137,4 +143,71 @@ impl<T, A: Allocator> Table<T, A> {
         let set = self.set_column_alignment(column, alignment);
         self.if_set(set)
     }
+}
+
+impl<T: AsStr + Drop, A: Allocator> Table<T, A> {
+    /// The table with its columns of numbers at the right: those whose texts below row 0 are numbers
+    /// ([`is_number`](crate::numbers::is_number)) or blank.
+    ///
+    /// Allocates for each such column. After an error the table is dropped.
+    ///
+    /// ```text
+    /// let table = table.with_numbers_right()?; // │ tea   │  3.50 │
+    /// ```
+    pub fn with_numbers_right(mut self) -> Result<Table<T, A>, TableFault>
+    where
+        A: Clone,
+        ensures ok { IfOk result (λ table. table ≡ numbered T.text self) }
+        ensures memory { (fault : TableFault) → result ≡ Err fault → fault ≡ TableFault.Memory }
+        ensures nothing { ((column : ℕ) → column < columns_of self.rows → is_numeric (texts_of T.text self) column ≡ false) → IsOk result }
+        ensures narrow { IsNarrowLook self.config → IfOk result (λ table. IsNarrowLook table.config) }
+    {
+        match align_numbers(&self.records, &mut self.config) {
+            Ok(()) => Ok(self),
+            Err(error) => Err(error.into()),
+        }
+    }
+}
+
+// Aligns columns of numbers at the right, or some of them if memory is refused.
+fn align_numbers<R: PeekableRecords + ExactRecords, A: Allocator + Clone>(
+    records: &R,
+    config: &mut SpannedConfig<A>,
+) -> Result<(), AllocError>
+    ensures ok { OnOk result (config.new ≡ record config.old { alignment_horizontal = with_numbers_right (R.texts records.now) (R.columns records.now) config.old.alignment_horizontal }) }
+    ensures nothing { ((column : ℕ) → column < R.columns records.now → is_numeric (R.texts records.now) column ≡ false) → IsOk result }
+{
+    for column in 0..records.count_columns() {
+        align_number(records, config, column)?;
+    }
+    Ok(())
+}
+
+// Aligns a column at the right if it is one of numbers.
+fn align_number<R: PeekableRecords + ExactRecords, A: Allocator + Clone>(
+    records: &R,
+    config: &mut SpannedConfig<A>,
+    column: usize,
+) -> Result<(), AllocError>
+    requires column { column < R.columns records.now }
+    ensures ok { OnOk result (config.new ≡ record config.old { alignment_horizontal = with_number_right (R.texts records.now) config.old.alignment_horizontal column }) }
+    ensures nothing { is_numeric (R.texts records.now) column ≡ false → IsOk result }
+{
+    if !is_numeric(records, column) {
+        return Ok(());
+    }
+    config.set_alignment_horizontal(Entity::Column(column), AlignmentHorizontal::Right)
+}
+
+// Whether each text of a column below row 0 is a number, or blank.
+fn is_numeric<R: PeekableRecords + ExactRecords>(records: &R, column: usize) -> bool
+    requires column { column < R.columns records.now }
+    ensures { result ≡ is_numeric (R.texts records.now) column }
+{
+    for row in 1..records.count_rows() {
+        if !is_number_or_blank(records.get_text(Position::new(row, column))) {
+            return false;
+        }
+    }
+    true
 }
