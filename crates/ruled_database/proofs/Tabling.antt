@@ -12,7 +12,7 @@ use Rattle.ruled_database.specs.declared.fault.TableFault.TheVariants.{Damage, D
 use Rattle.std.proofs.Math.Dec.{leb-suc-suc}
 use Rattle.std.proofs.Math.Numerals.{add-one}
 use Rattle.std.proofs.lemmas.Bool.Decides.{nat_tests}
-use Rattle.std.specs.Prelude.{◌==◌, ◌≢◌, if◌then◌else◌, slice_index_or, nat_le, Any, IfErr, IfOk}
+use Rattle.std.specs.Prelude.{◌==◌, ◌≢◌, if◌then◌else◌, slice_index_or, nat_le, Any, IfErr}
 use Rattle.std.specs.Result.{IsErrAnd}
 use Rattle.sqlite_format.specs.Bytes.{u32_at}
 use Rattle.sqlite_format.specs.Page.{cell_count, right_child}
@@ -239,7 +239,7 @@ first_pair true row one other = refl
 first_pair false row one other = refl
 
 -- one row more, of which one less is wanted
-first_more : (limit less : ℕ) (row : Stored) (rows : List Stored × Bool) → limit ≡ less + 1
+pub first_more : (limit less : ℕ) (row : Stored) (rows : List Stored × Bool) → limit ≡ less + 1
     → ◌≡◌ {A = List Stored × Bool} (first_of (Some limit) (row ∷ rows.0, rows.1)) (row ∷ (first_of (Some less) rows).0, (first_of (Some less) rows).1)
 first_more limit less row rows is =
     let none : List Stored × Bool = (row ∷ rows.0, rows.1) in
@@ -247,18 +247,10 @@ first_more limit less row rows is =
     ∙ ap (λ (b : Bool). if◌then◌else◌ {A = List Stored × Bool} b (row ∷ take less rows.0, true) none) (leb-suc-suc less (length rows.0))
     ∙ first_pair (nat_le less (length rows.0)) row (take less rows.0, true) rows
 
-first_of_none : (limit : Option ℕ) → ◌≡◌ {A = List Stored × Bool} (first_of limit ([], true)) ([], true)
+pub first_of_none : (limit : Option ℕ) → ◌≡◌ {A = List Stored × Bool} (first_of limit ([], true)) ([], true)
 first_of_none None = refl
 first_of_none (Some zero) = refl
 first_of_none (Some (suc limit)) = same_both {X = List Stored × Bool} (nat_le (suc limit) 0) ([], true)
-
--- a row is given only where one more is wanted
-pub first_given : {E : Type 0} (limit less : ℕ) (result : Result (Option StoredRow) E) (before after : List Stored × Bool) → limit ≡ less + 1 → IfOk result (λ row. before ≡ with_row row after)
-    → IfOk result (λ row. row ≡ None → before ≡ ([], true)) → IfOk result (λ row. first_of (Some limit) before ≡ with_row row (first_of (Some less) after))
-first_given limit less (Err e) before after is rows end = tt
-first_given limit less (Ok (Some row)) before after is rows end = ap (first_of (Some limit)) rows ∙ first_more limit less (stored_of row) after is
-first_given limit less (Ok None) before after is rows end =
-    ap (first_of (Some limit)) (end refl) ∙ first_of_none (Some limit) ∙ sym (ap (first_of (Some less)) (sym rows ∙ end refl) ∙ first_of_none (Some less))
 
 -- ---- overflow pages
 

@@ -169,8 +169,9 @@ impl<'a> Cursor<'a> {
         Ok(None)
     }
 
-    // Reads on in a page: the row that is next, or the page that is next.
-    fn read_level(&mut self, mut level: Level<'a>) -> Result<Option<StoredRow<'a>>, TableFault>
+    // Reads on in a page: its next row, or the page that comes next.
+    fn read_level(&mut self, level: Level<'a>) -> Result<Option<StoredRow<'a>>, TableFault>
+        requires { level.row ≡ None }
         ensures file { self.new.file ≡ self.old.file }
         ensures tree { self.new.tree ≡ self.old.tree }
         ensures limit { self.new.limit ≡ self.old.limit }
@@ -178,11 +179,6 @@ impl<'a> Cursor<'a> {
         ensures fault { IfErr result (LacksRow (rows_behind (steps_of self.old.file.bytes.now self.old.tree level.entry) self.old)) }
         ensures fewer { IfOk result (λ row. row ≡ None → 2 * self.new.left + length self.new.levels.items ≤ 2 * self.old.left + length self.old.levels.items) }
     {
-        if let Some(row) = level.row {
-            level.row = None;
-            self.levels.push(level)?;
-            return Ok(Some(row));
-        }
         if level.place < level.node.count {
             return self.read_cell(level);
         }
@@ -200,7 +196,12 @@ impl<'a> Cursor<'a> {
         ensures fault { IfErr result (LacksRow (rows_behind [] self.old)) }
         ensures end { IfOk result (λ row. row ≡ None → rows_behind [] self.old ≡ ([], true)) }
     {
-        while let Some(level) = self.levels.pop() {
+        while let Some(mut level) = self.levels.pop() {
+            if let Some(row) = level.row {
+                level.row = None;
+                self.levels.push(level)?;
+                return Ok(Some(row));
+            }
             if let Some(row) = self.read_level(level)? {
                 return Ok(Some(row));
             }
@@ -208,6 +209,7 @@ impl<'a> Cursor<'a> {
         Ok(None)
     }
 
+    #[tactic(auto, using(crate::proofs::Tabling::first_more, crate::proofs::Tabling::first_of_none))]
     /// The next row, if there is one more and it is wanted.
     pub(crate) fn next(&mut self) -> Result<Option<StoredRow<'a>>, TableFault>
         ensures file { self.new.file ≡ self.old.file }

@@ -1,4 +1,4 @@
-use Rattle.std.proofs.Common.{◌≡◌, ◌∙◌, ◌-◌, ℕ, List, None, Some, ap, sym, subst, arith, rules}
+use Rattle.std.proofs.Common.{◌≡◌, ◌∙◌, ◌-◌, List, None, Some, ap, sym, subst, arith, rules}
 use Rattle.ruled_database.specs.Files.{page_of}
 use Rattle.ruled_database.specs.Trees.{LacksRow, Step, page_at, rows_behind, rows_below, sound_rows, steps_of_all}
 use Rattle.ruled_database.specs.declared.fault.TableFault.TheVariants.{Damage}
