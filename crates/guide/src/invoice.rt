@@ -11,10 +11,9 @@
 //! ```
 
 use crate::rows::rows_of;
-use pg_config::SpannedConfig;
 use pg_layout::{AlignmentHorizontal, Borders, Entity, HorizontalLine, Position, Sides};
 use pg_table::{Table, TableFault};
-use std::alloc::{AllocError, Global};
+use std::alloc::Global;
 
 const INVOICE: &[&[&str]] = &[
     &["Invoice 2041", "", "", ""],
@@ -24,24 +23,23 @@ const INVOICE: &[&[&str]] = &[
     &["total", "", "", "14.50"],
 ];
 
-/// The invoice.
+/// The invoice: words at the left; the heading takes all four columns, and the word beside the total three.
 pub(crate) fn invoice(alloc: Global) -> Result<String, TableFault> {
     let mut table = Table::new(alloc, rows_of(alloc, INVOICE)?)?
         .with_borders(Borders::modern())
         .with_padding(Sides::spaces(1, 0))
-        .with_alignment(AlignmentHorizontal::Right);
-    set_cells(table.config_mut())?;
+        .with_alignment(AlignmentHorizontal::Right)
+        .with_column_alignment(0, AlignmentHorizontal::Left)?
+        .with_column_span(Position::new(0, 0), 4)?
+        .with_column_span(Position::new(4, 0), 3)?;
+    // The side of a single cell is set in the table's configuration.
+    let heading = Entity::Cell(0, 0);
+    table
+        .config_mut()
+        .set_alignment_horizontal(heading, AlignmentHorizontal::Center)?;
     table
         .with_span_crossings(alloc, Borders::modern())?
         .to_string(alloc)
-}
-
-// Words at the left; the heading takes all four columns, and the word beside the total three.
-fn set_cells(config: &mut SpannedConfig) -> Result<(), AllocError> {
-    config.set_alignment_horizontal(Entity::Column(0), AlignmentHorizontal::Left)?;
-    config.set_column_span(Position::new(0, 0), 4)?;
-    config.set_alignment_horizontal(Entity::Cell(0, 0), AlignmentHorizontal::Center)?;
-    config.set_column_span(Position::new(4, 0), 3)
 }
 
 const BILL: &[&[&str]] = &[
