@@ -159,11 +159,6 @@ bare-joins dialect (byte ∷ rest) old before calm some at bare = λ s is.
     bare-run dialect s byte rest before calm (ap (λ (hand : Hand). hand.state) is ∙ at) bare
     ∙ ap (λ (hand : Hand). record s { hand = record (hand_cut dialect hand (byte ∷ rest)) { lines = calm_lines hand.lines } }) is
 
--- bytes that are appended where there is room
-pub on-grown : {T E : Type 0} (result : Result T E) (new more old : List ℕ) → new ≡ (if is_ok result then more else old) → OnOk result (new ≡ more)
-on-grown (Ok x) new more old is = is
-on-grown (Err e) new more old is = tt
-
 -- ---- what is in front of a run
 
 pub quoted-state : (before : Standing) → is_quoted (state_of before) ≡ true → state_of before ≡ st.InQuoted

@@ -108,7 +108,7 @@ pub record Hand : Type 0 where
   pub opened : ℕ
 
 abbrev pub hand_of : Scanner → Hand
-hand_of s = record { state = state_of s.standing; fields = fields_of s.row; field = partial_of s.row ++ s.field.items; lines = s.lines; opened = s.opened }
+hand_of s = record { state = state_of s.standing; fields = fields_of s.row; field = partial_of s.row; lines = s.lines; opened = s.opened }
 
 -- no row is at hand
 abbrev pub empty_hand : Hand

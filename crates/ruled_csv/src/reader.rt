@@ -25,6 +25,7 @@ fn has_length(dialect: Dialect, columns: usize, fields: usize) -> bool
 
 // The text of a row that begins on this line, or what is wrong with it.
 #[tactic(auto, using(crate::proofs::TextFaults::row_right, crate::proofs::TextFaults::row_wrong))]
+#[inline(always)]
 fn text_of(
     fields: &RowBuffer,
     row: usize,
@@ -84,6 +85,7 @@ impl RowReader {
     }
 
     // Appends a row that ended.
+    #[inline(always)]
     fn give(&mut self, fields: &RowBuffer, rows: &mut Vec<TextRow>) -> Result<(), RowsFault>
         ensures left { self.new.is_left_out ≡ self.old.is_left_out }
         ensures scanner { self.new.scanner ≡ self.old.scanner }
@@ -102,6 +104,7 @@ impl RowReader {
     }
 
     // Appends the row that has these fields, or the words of their line, if it has any.
+    #[inline(always)]
     fn give_row(&mut self, fields: &RowBuffer, rows: &mut Vec<TextRow>) -> Result<(), RowsFault>
         ensures left { self.new.is_left_out ≡ self.old.is_left_out }
         ensures scanner { self.new.scanner ≡ self.old.scanner }
@@ -125,6 +128,7 @@ impl RowReader {
     }
 
     // Reads a byte of a line that isn't left out, or of its end.
+    #[inline(always)]
     fn scan(&mut self, byte: u8, rows: &mut Vec<TextRow>) -> Result<(), RowsFault>
         ensures left { self.new.is_left_out ≡ self.old.is_left_out }
         ensures read { (dialect : Dialect) (scan : Scan) → Holds dialect scan self.old → OnOk result (Holds dialect (scan_after dialect scan byte) self.new) }

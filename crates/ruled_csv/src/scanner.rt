@@ -198,8 +198,9 @@ impl Standing {
 pub(crate) struct Scanner {
     pub(crate) dialect: Dialect,
     standing: Standing,
+    alloc: Global,
+    // The current row, and what was read of its field.
     row: RowBuffer,
-    field: Vec<u8>,
     lines: Lines,
     // The line of the quote opened last.
     opened: usize,
@@ -216,8 +217,8 @@ impl Scanner {
         Scanner {
             dialect,
             standing: Standing::Row,
+            alloc,
             row: RowBuffer::new(alloc),
-            field: Vec::new(alloc),
             lines: Lines::new(),
             opened: 1,
             begun: 1,
@@ -246,25 +247,15 @@ impl Scanner {
         self.lines = self.lines.below(byte);
     }
 
-    // Ends the current field.
-    fn end_field(&mut self) -> Result<(), AllocError>
-        ensures hand { OnOk result (hand_of self.new ≡ record (hand_of self.old) { fields = (hand_of self.old).fields ++ ((hand_of self.old).field ∷ []); field = [] }) }
-        ensures dialect { self.new.dialect ≡ self.old.dialect }
-    {
-        self.row.push_field(&self.field)?;
-        self.field.clear();
-        Ok(())
-    }
-
     // Ends the current row, begins another one, and gives the buffer of the first away.
+    #[inline(always)]
     fn end_row(&mut self) -> Result<RowBuffer, AllocError>
         ensures row { IfOk result (λ row. fields_of row ≡ (hand_of self.old).fields ++ ((hand_of self.old).field ∷ [])) }
         ensures hand { OnOk result (hand_of self.new ≡ record (hand_of self.old) { fields = []; field = [] }) }
         ensures dialect { self.new.dialect ≡ self.old.dialect }
     {
-        self.end_field()?;
-        let empty = RowBuffer::new(*self.field.allocator());
-        Ok(mem::replace(&mut self.row, empty))
+        self.row.end_field()?;
+        Ok(mem::replace(&mut self.row, RowBuffer::new(self.alloc)))
     }
 
     /// Takes the buffer of a row that ended for the next one.
@@ -272,22 +263,10 @@ impl Scanner {
         ensures hand { hand_of self.new ≡ hand_of self.old }
         ensures dialect { self.new.dialect ≡ self.old.dialect }
     {
-        if self.row.len() == 0 {
+        if self.row.is_empty() {
             buffer.clear();
             self.row = buffer;
         }
-    }
-
-    // Adds these bytes to the current field, and ends it.
-    fn end_field_with(&mut self, bytes: &[u8]) -> Result<(), AllocError>
-        ensures hand { OnOk result (hand_of self.new ≡ record (hand_of self.old) { fields = (hand_of self.old).fields ++ (((hand_of self.old).field ++ bytes.now) ∷ []); field = [] }) }
-        ensures dialect { self.new.dialect ≡ self.old.dialect }
-    {
-        if self.field.is_empty() {
-            return self.row.push_field(bytes);
-        }
-        self.field.extend_from_slice(bytes)?;
-        self.end_field()
     }
 
     // Reads a run outside quotes.
@@ -299,10 +278,10 @@ impl Scanner {
         self.standing = self.standing.behind_run(delimiter, run);
         let mut start = 0;
         for at in memchr_iter(delimiter, run) {
-            self.end_field_with(&run[start..at])?;
+            self.row.push_field(&run[start..at])?;
             start = at + 1;
         }
-        self.field.extend_from_slice(&run[start..])
+        self.row.push_bytes(&run[start..])
     }
 
     // Reads a run.
@@ -320,7 +299,7 @@ impl Scanner {
         };
         self.lines = self.lines.behind_text();
         if self.standing.is_quoted() {
-            self.field.extend_from_slice(run)
+            self.row.push_bytes(run)
         } else {
             self.cut_run(run)
         }
@@ -366,12 +345,12 @@ impl Scanner {
                 Ok(None)
             }
             Act::Join => {
-                self.field.push(byte)?;
+                self.row.push_bytes(&[byte])?;
                 Ok(None)
             }
             Act::Behind => Err(RowsFault::BehindQuote { line }),
             Act::EndField => {
-                self.end_field()?;
+                self.row.end_field()?;
                 Ok(None)
             }
             Act::EndRow => Ok(Some(self.end_row()?)),

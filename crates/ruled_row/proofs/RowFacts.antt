@@ -1,16 +1,17 @@
 -- What rows of a whole text keep, and what their fields are.
 use Rattle.std.proofs.Common.{◌≡◌, ◌≤◌, ◌<◌, ◌-◌, ◌+◌, ◌∙◌, ℕ, zero, suc, Option, Some, None, List, [], ◌∷◌, ◌++◌, get_or, take, take-take, drop, length, length-append, refl, sym, ap, subst, arith}
-use Rattle.std.specs.Prelude.{IsUtf8, slice_index, slice_range}
+use Rattle.std.specs.Prelude.{IsUtf8, slice_get, slice_index, slice_range}
 use Rattle.std.specs.Str.{IsAscii, IsCharBoundary}
-use Rattle.std.proofs.lemmas.List.{drop-take, take-append-drop, take_all}
+use Rattle.std.proofs.lemmas.List.{drop-append-le, drop-take, drop_all, length-take-le, take-append-drop, take_all}
 use Rattle.std.proofs.lemmas.List.Elements.{same_from_all_zip}
+use Rattle.std.proofs.lemmas.Option.{get_or_from_slice_get, slice_get-get_or}
 use Rattle.std.proofs.lemmas.Str.{IsCharBoundary-from_ascii, IsCharBoundary-from_take, IsCharBoundary-start, IsUtf8-append, IsUtf8-between, IsUtf8-nil}
 use Rattle.std.proofs.Math.Seq.{drop-append_seam, drop-length}
-use Rattle.csv.specs.Records.{AllText, Rising, Row, cut_from, field_at, fields_of, last_end, partial_of, prev}
-use Rattle.csv.proofs.RecordFacts.{cut-end, cut-length, cut-more, field-bounds, field-cut, field-none, last-append, prev-first, prev-next, rising-end, rising-more, text-more}
+use Rattle.csv.specs.Records.{AllText, IsRecord, Rising, Row, cut_from, field_at, fields_of, last_end, partial_of, prev}
+use Rattle.csv.proofs.RecordFacts.{cut-end, cut-length, cut-more, cut-take, field-bounds, field-cut, field-none, last-append, last_end-at, last_end-none, prev-first, prev-next, rising-end, rising-last, rising-more, rising-shrink, text-more}
 use Rattle.ruled_row.specs.Cuts.{AreCuts}
 use Rattle.ruled_row.specs.Parts.{IsPart}
-use Rattle.ruled_row.specs.Rows.{IsWhole}
+use Rattle.ruled_row.specs.Rows.{IsWhole, ended_of}
 
 -- a row of no fields
 pub whole_none : (bytes ends : List ℕ) → bytes ≡ [] → ends ≡ [] → IsWhole (record { bytes = bytes; ends = ends })
@@ -25,9 +26,64 @@ pub text_none : (bytes ends : List ℕ) → ends ≡ [] → AllText (fields_of (
 unfolding cut_from AllText
 text_none bytes ends ended = rw ended tt
 
--- no bytes follow the last field
-pub partial_none : (r : Row) → IsWhole r → partial_of r ≡ []
-partial_none r whole = rw whole.1 (drop-length r.bytes)
+-- a buffer of no fields
+pub record_none : (bytes ends : List ℕ) → ends ≡ [] → IsRecord (record { bytes = bytes; ends = ends })
+unfolding Rising
+record_none bytes ends ended = rw ended (omega arith)
+
+pub partial_none : (bytes ends : List ℕ) → bytes ≡ [] → partial_of (record { bytes = bytes; ends = ends }) ≡ []
+partial_none bytes ends none = ap (drop (last_end 0 ends)) none ∙ drop_all (last_end 0 ends) [] (omega arith)
+
+pub nothing : (bytes ends : List ℕ) → fields_of (record { bytes = bytes; ends = ends }) ≡ [] → partial_of (record { bytes = bytes; ends = ends }) ≡ [] → (bytes ≡ []) × (ends ≡ [])
+unfolding cut_from last_end
+nothing bytes [] none rest = (rest, refl)
+nothing bytes (end ∷ ends) none rest = absurd (cc)
+
+-- its fields alone are a row
+pub ended_at : (ends : List ℕ) (end : ℕ) → Some end ≡ slice_get ends (length ends - 1) → last_end 0 ends ≡ end
+ended_at [] end found = absurd (cc)
+ended_at (e ∷ ends) end found =
+    last_end-at 0 (e ∷ ends) (length ends) 0 refl
+    ∙ get_or_from_slice_get (e ∷ ends) (length ends) end 0 (ap (slice_get (e ∷ ends)) (omega arith) ∙ sym found)
+
+pub ended_none : (ends : List ℕ) → None ≡ slice_get ends (length ends - 1) → last_end 0 ends ≡ 0
+ended_none [] found = last_end-none 0 [] refl
+ended_none (e ∷ ends) found =
+    let there = slice_get-get_or (e ∷ ends) (length ends) 0 (omega arith) in
+    let here : None ≡ slice_get (e ∷ ends) (length ends) = found ∙ ap (slice_get (e ∷ ends)) (omega arith) in
+    absurd (cc)
+
+pub ended_whole : (r : Row) → IsRecord r → IsWhole (ended_of r)
+ended_whole r rises =
+    let last : last_end 0 r.ends ≤ length r.bytes = rising-last 0 r.ends (length r.bytes) rises in
+    let size : length (take (last_end 0 r.ends) r.bytes) ≡ last_end 0 r.ends = length-take-le (last_end 0 r.ends) r.bytes last in
+    (rw size (rising-shrink 0 r.ends (length r.bytes) (last_end 0 r.ends) rises (omega arith)), sym size)
+
+pub ended_fields : (r : Row) → IsRecord r → fields_of (ended_of r) ≡ fields_of r
+ended_fields r rises = cut-take 0 r.ends r.bytes (last_end 0 r.ends) rises (omega arith) (rising-last 0 r.ends (length r.bytes) rises)
+
+-- a buffer with more bytes
+pub record_more : (r : Row) (field : List ℕ) → IsRecord r → IsRecord (record { bytes = r.bytes ++ field; ends = r.ends })
+record_more r field rises = rising-more 0 r.ends (length r.bytes) (length (r.bytes ++ field)) rises (omega (arith, length-append r.bytes field))
+
+pub fields_stay : (r : Row) (field : List ℕ) → IsRecord r → fields_of (record { bytes = r.bytes ++ field; ends = r.ends }) ≡ fields_of r
+fields_stay r field rises = cut-more 0 r.ends r.bytes field rises
+
+pub partial_more : (r : Row) (field : List ℕ) → IsRecord r → partial_of (record { bytes = r.bytes ++ field; ends = r.ends }) ≡ partial_of r ++ field
+partial_more r field rises = drop-append-le (last_end 0 r.ends) r.bytes field (rising-last 0 r.ends (length r.bytes) rises)
+
+-- a buffer whose field ends
+abbrev pub with_end : Row → Row
+with_end r = record { bytes = r.bytes; ends = r.ends ++ (length r.bytes ∷ []) }
+
+pub record_end : (r : Row) → IsRecord r → IsRecord (with_end r)
+record_end r rises = rising-end 0 r.ends (length r.bytes) rises
+
+pub fields_end : (r : Row) → IsRecord r → fields_of (with_end r) ≡ fields_of r ++ (partial_of r ∷ [])
+fields_end r rises = cut-end 0 r.ends r.bytes rises
+
+pub partial_end : (r : Row) → partial_of (with_end r) ≡ []
+partial_end r = rw (last-append 0 r.ends (length r.bytes)) (drop-length r.bytes)
 
 -- a row with one more field
 abbrev pub with_field : Row → List ℕ → Row
@@ -112,9 +168,9 @@ start_next ends field some within =
 
 -- where a field begins and ends, and what it is
 module _ (r : Row) (place start end : ℕ) (part : IsPart r.ends place (Some (start, end))) where
-  pub part_bounds : IsWhole r → (start ≤ end) × (end ≤ length r.bytes)
-  part_bounds whole =
-      let bounds = field-bounds 0 r.ends (length r.bytes) place whole.0 part.0 in
+  pub part_bounds : IsRecord r → (start ≤ end) × (end ≤ length r.bytes)
+  part_bounds rises =
+      let bounds = field-bounds 0 r.ends (length r.bytes) place rises part.0 in
       (omega (arith, bounds.0, part.2, part.3), omega (arith, bounds.1, part.3))
 
   pub part_value : Some (take (end - start) (drop start r.bytes)) ≡ field_at (fields_of r) place
@@ -135,3 +191,6 @@ ascii_cuts r whole ascii k lt = IsCharBoundary-from_ascii r.bytes (get_or r.ends
 
 pub cuts_of : (r : Row) → IsWhole r → AllText (fields_of r) → AreCuts r.bytes r.ends
 cuts_of r whole texts k lt = end_cut r k whole texts (text_whole r whole texts) lt
+
+-- how many fields there are
+pub ruleset field_count = (cut-length)

@@ -1,5 +1,5 @@
 -- What rows and buffers keep.
-use Rattle.std.specs.Prelude.{◌≡◌, length, string_bytes}
+use Rattle.std.specs.Prelude.{◌≡◌, length, string_bytes, take}
 use Rattle.csv.specs.Records.{AllText, Rising, Row, fields_of, last_end}
 use Rattle.ruled_row.specs.Ends.{places_of}
 use Rattle.ruled_row.specs.declared.buffer.RowBuffer.TheInside.{Inside as BufferInside}
@@ -15,3 +15,7 @@ buffer_of a = record { bytes = a.bytes.items; ends = a.ends.items }
 -- its fields are all of its text
 abbrev pub IsWhole : Row → Type 0
 IsWhole r = Rising 0 r.ends (length r.bytes) × (last_end 0 r.ends ≡ length r.bytes)
+
+-- the fields of a buffer alone, without what was read of one that hasn't ended
+abbrev pub ended_of : Row → Row
+ended_of r = record { bytes = take (last_end 0 r.ends) r.bytes; ends = r.ends }

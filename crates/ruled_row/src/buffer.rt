@@ -1,8 +1,9 @@
 //! Rows that are read field by field.
 
-ghost use Rattle.std.specs.Prelude.{◌≡◌, ◌<◌, ◌≤◌, ◌+◌, ◌-◌, ◌^◌, ◌∷◌, ◌++◌, [], false, true, length, option_map, IfNone, IfOk, IfSome, OnErr, OnOk};
+ghost use Rattle.std.specs.Prelude.{◌≡◌, ◌≢◌, ◌<◌, ◌≤◌, ◌+◌, ◌-◌, ◌^◌, ◌∷◌, ◌++◌, [], false, true, length, option_map, IfNone, IfOk, IfSome, OnErr, OnOk};
 ghost use Rattle.csv.specs.Records.{AllText, field_at, field_count, fields_of, partial_of};
 ghost use Rattle.ruled_row.specs.Cuts.{AreCuts};
+ghost use Rattle.ruled_row.specs.Rows.{IsWhole, ended_of};
 
 use crate::ends::{Ends, kept_place, part_of};
 use crate::row::TextRow;
@@ -32,8 +33,8 @@ fn are_cuts(text: &str, places: &[u32]) -> bool
     true
 }
 
-/// The fields of a row that is being read: any bytes. It is kept for the next row, so that reading allocates for the
-/// rows alone.
+/// The fields of a row that is being read, and behind them what was read of one that hasn't ended: any bytes. It is kept
+/// for the next row, so that reading allocates for the rows alone.
 pub struct RowBuffer {
     bytes: Vec<u8>,
     ends: Vec<u32>,
@@ -48,19 +49,20 @@ impl Drop for RowBuffer {
 }
 
 impl Model for RowBuffer {
-    ghost use Rattle.csv.specs.Records.{Row};
+    ghost use Rattle.csv.specs.Records.{IsRecord, Row};
 
     ghost Value = { Row };
 
-    ghost use Rattle.ruled_row.specs.Rows.{IsWhole, buffer_of};
+    ghost use Rattle.ruled_row.specs.Rows.{buffer_of};
 
     ghost view = { buffer_of };
 
-    ghost invariant = { λ a. IsWhole (buffer_of a) };
+    ghost invariant = { λ a. IsRecord (buffer_of a) };
 }
 
 impl RowBuffer {
     /// No fields.
+    #[tactic(auto, using(crate::proofs::RowFacts::fields_none, crate::proofs::RowFacts::partial_none, crate::proofs::RowFacts::record_none))]
     pub fn new(alloc: Global) -> RowBuffer
         ensures fields { fields_of result ≡ [] }
         ensures partial { partial_of result ≡ [] }
@@ -71,10 +73,10 @@ impl RowBuffer {
         }
     }
 
-    /// How many fields there are. No bytes follow the last one.
+    /// How many fields have ended.
+    #[tactic(auto, using(crate::proofs::RowFacts::field_count))]
     pub fn len(&self) -> usize
         ensures count { result ≡ length (fields_of self.now) }
-        ensures partial { partial_of self.now ≡ [] }
     {
         self.ends.len()
     }
@@ -90,7 +92,17 @@ impl RowBuffer {
         }
     }
 
+    /// Whether it has no bytes and no fields.
+    pub fn is_empty(&self) -> bool
+        ensures fields { result ≡ true → fields_of self.now ≡ [] }
+        ensures partial { result ≡ true → partial_of self.now ≡ [] }
+        ensures some { result ≡ false → fields_of self.now ≡ [] → partial_of self.now ≢ [] }
+    {
+        self.bytes.is_empty() && self.ends.is_empty()
+    }
+
     /// Takes all fields away.
+    #[tactic(auto, using(crate::proofs::RowFacts::fields_none, crate::proofs::RowFacts::partial_none, crate::proofs::RowFacts::record_none))]
     pub fn clear(&mut self)
         ensures fields { fields_of self.new ≡ [] }
         ensures partial { partial_of self.new ≡ [] }
@@ -99,10 +111,32 @@ impl RowBuffer {
         self.ends.clear();
     }
 
-    /// Adds a field. Out of memory leaves the fields as they were.
+    /// Adds bytes to the field that hasn't ended. Out of memory leaves it as it was.
+    #[inline(always)]
+    #[tactic(auto, using(crate::proofs::RowFacts::fields_stay, crate::proofs::RowFacts::partial_more, crate::proofs::RowFacts::record_more))]
+    pub fn push_bytes(&mut self, bytes: &[u8]) -> Result<(), AllocError>
+        ensures fields { fields_of self.new ≡ fields_of self.old }
+        ensures partial { OnOk result (partial_of self.new ≡ partial_of self.old ++ bytes.now) }
+        ensures err { OnErr result (self.new ≡ self.old) }
+    {
+        self.bytes.extend_from_slice(bytes)
+    }
+
+    /// Ends the field. Out of memory leaves it as it was.
+    #[inline(always)]
+    #[tactic(auto, using(crate::proofs::RowFacts::fields_end, crate::proofs::RowFacts::partial_end, crate::proofs::RowFacts::record_end))]
+    pub fn end_field(&mut self) -> Result<(), AllocError>
+        ensures fields { OnOk result (fields_of self.new ≡ fields_of self.old ++ (partial_of self.old ∷ [])) }
+        ensures partial { OnOk result (partial_of self.new ≡ []) }
+        ensures err { OnErr result (self.new ≡ self.old) }
+    {
+        push_end(&mut self.ends, self.bytes.len())
+    }
+
+    /// Adds bytes to the field, and ends it. Out of memory leaves it as it was.
     pub fn push_field(&mut self, field: &[u8]) -> Result<(), AllocError>
         ensures fields { OnOk result (fields_of self.new ≡ fields_of self.old ++ ((partial_of self.old ++ field.now) ∷ [])) }
-        ensures partial { partial_of self.new ≡ [] }
+        ensures partial { OnOk result (partial_of self.new ≡ []) }
         ensures err { OnErr result (self.new ≡ self.old) }
     {
         let start = self.bytes.len();
@@ -116,16 +150,29 @@ impl RowBuffer {
         }
     }
 
+    // The bytes of all fields that have ended.
+    fn ended(&self) -> &[u8]
+        ensures bytes { result.now ≡ (ended_of self.now).bytes }
+        ensures whole { IsWhole (ended_of self.now) }
+        ensures fields { fields_of (ended_of self.now) ≡ fields_of self.now }
+    {
+        match self.ends.last() {
+            Some(end) => &self.bytes[..*end as usize],
+            None => &[],
+        }
+    }
+
     // The text of all fields, if each is UTF-8. Most texts are ASCII, and a test for that costs less.
     fn text(&self) -> Option<&str>
-        ensures some { IfSome result (λ text. text.now ≡ self.now.bytes) }
+        ensures some { IfSome result (λ text. text.now ≡ (ended_of self.now).bytes) }
         ensures fields { IfSome result (λ _. AllText (fields_of self.now)) }
         ensures none { IfNone result (¬ (AllText (fields_of self.now))) }
     {
-        if self.bytes.is_ascii() {
-            return Some(unsafe { str::from_utf8_unchecked(&self.bytes) });
+        let bytes = self.ended();
+        if bytes.is_ascii() {
+            return Some(unsafe { str::from_utf8_unchecked(bytes) });
         }
-        match str::from_utf8(&self.bytes) {
+        match str::from_utf8(bytes) {
             Ok(text) => {
                 if are_cuts(text, &self.ends) {
                     return Some(text);

@@ -67,6 +67,7 @@ impl TextRow {
     }
 
     /// How many fields it has.
+    #[tactic(auto, using(crate::proofs::RowFacts::field_count))]
     pub fn len(&self) -> usize
         ensures { result ≡ length (fields_of self.now) }
     {

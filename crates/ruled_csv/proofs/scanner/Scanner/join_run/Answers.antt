@@ -1,9 +1,9 @@
-use Rattle.std.proofs.Common.{◌∙◌, ◌++◌, List, ℕ, append_assoc, refl, sym, ap, subst}
+use Rattle.std.proofs.Common.{◌∙◌, List, ℕ, refl, sym, ap, subst}
 use Rattle.std.proofs.lemmas.Result.{on_ok_weaker}
-use Rattle.csv.specs.Records.{partial_of}
+use Rattle.csv.specs.Records.{fields_of, partial_of}
 use Rattle.ruled_csv.specs.Inside.{Hand, Joins, calm_lines, hand_cut, hand_of, state_of}
 use Rattle.ruled_csv.specs.declared.lines.Lines.{Lines}
-use Rattle.ruled_csv.proofs.KeptTexts.{bare-joins, bare-state, on-grown, quoted-joins, quoted-state}
+use Rattle.ruled_csv.proofs.KeptTexts.{bare-joins, bare-state, quoted-joins, quoted-state}
 use Rattle.ruled_csv.proofs.scanner.Scanner.join_run.Goals as goal
 
 pub returns-then-is_quoted-clause-hand : goal.returns-then-is_quoted-clause-hand
@@ -13,13 +13,13 @@ returns-then-is_quoted-clause-hand c =
     let hand = hand_of old in
     let quoted = quoted-state old.standing (sym c.is_quoted.ensures ∙ c.if-is_quoted.true) in
     let joined = quoted-joins old.dialect run hand c.requires.calm c.requires.some quoted in
-    on_ok_weaker c.extend_from_slice.result
-    (λ items.
-    let field = append_assoc (partial_of old.row) old.field.items run ∙ ap (λ (xs : List ℕ). partial_of old.row ++ xs) (sym items) in
-    let joins = subst (λ (xs : List ℕ). Joins old.dialect run hand (record hand { field = xs; lines = calm_lines old.lines })) field joined in
-    let after = partial_of old.row ++ c.extend_from_slice.new.self.items in
-    subst (λ (lines : Lines). Joins old.dialect run hand (record hand { field = after; lines = lines })) (sym c.behind_text-self.ensures) joins)
-    (on-grown c.extend_from_slice.result _ _ _ c.extend_from_slice.ensures.items)
+    let row = c.push_bytes.new.self in
+    on_ok_weaker c.push_bytes.result
+    (λ field.
+    let joins = subst (λ (xs : List ℕ). Joins old.dialect run hand (record hand { field = xs; lines = calm_lines old.lines })) (sym field) joined in
+    let whole = subst (λ (front : List (List ℕ)). Joins old.dialect run hand (record hand { fields = front; field = partial_of row; lines = calm_lines old.lines })) (sym c.push_bytes.ensures.fields) joins in
+    subst (λ (lines : Lines). Joins old.dialect run hand (record hand { fields = fields_of row; field = partial_of row; lines = lines })) (sym c.behind_text-self.ensures) whole)
+    c.push_bytes.ensures.partial
 
 pub returns-else-is_quoted-clause-hand : goal.returns-else-is_quoted-clause-hand
 returns-else-is_quoted-clause-hand c =

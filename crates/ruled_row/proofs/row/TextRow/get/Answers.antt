@@ -1,4 +1,4 @@
-use Rattle.std.proofs.Common.{◌≡◌, ◌≤◌, List, ℕ, length, sym, subst, Some}
+use Rattle.std.proofs.Common.{List, ℕ, sym, subst}
 use Rattle.std.specs.Str.{IsCharBoundary}
 use Rattle.std.proofs.lemmas.Str.{IsUtf8-string_bytes}
 use Rattle.csv.specs.Records.{Row}
@@ -15,7 +15,7 @@ returns-in-Some-clause-value c =
     rw (← c.self.view_is, c.range.ensures.value, c.deref.ensures) (part_value row c.args.place c.in-Some.start c.in-Some.end c.in-Some.ensures)
 
 pub range-requires-clause-start_le_end : goal.range-requires-clause-start_le_end
-range-requires-clause-start_le_end c = (part_bounds (row_of c.self.inside) c.args.place c.in-Some.start c.in-Some.end c.in-Some.ensures c.self.invariant.0).0
+range-requires-clause-start_le_end c = (part_bounds (row_of c.self.inside) c.args.place c.in-Some.start c.in-Some.end c.in-Some.ensures c.self.invariant.0.0).0
 
 pub range-requires-clause-start_boundary : goal.range-requires-clause-start_boundary
 range-requires-clause-start_boundary c = λ some.
