@@ -1,7 +1,5 @@
 -- Rows whose texts are fields of records, with names, sizes and escapes, those that are shown, how many columns fit in a line, and records of plain ASCII.
-use Rattle.std.proofs.Common.{◌≡◌, ◌≢◌, ◌<◌, ◌≤◌, ◌∙◌, ◌∷◌, ℕ, zero, suc, Bool, true, false, List, Option, [], map, length, slice_index_or, All, encode_utf8_all, flat_map, refl, sym, ap}
-use Rattle.std.proofs.Common.{arith, ap₂, Some, None, ◌==◌, ◌||◌, ◌++◌, not, chars, encode_utf8, IsUtf8, ◌+◌, ◌-◌, ◌/◌, max, take, drop, get_or, append_assoc, nat_lt, slice_index, sum_by}
-use Rattle.std.proofs.Common.{zero-add, inl, inr}
+use Rattle.std.proofs.Common.{◌≡◌, ◌≢◌, ◌<◌, ◌≤◌, ◌∙◌, ◌∷◌, ℕ, zero, suc, Bool, true, false, List, Option, [], map, length, slice_index_or, All, encode_utf8_all, flat_map, refl, sym, ap, arith, ap₂, Some, None, ◌==◌, ◌||◌, ◌++◌, not, chars, encode_utf8, IsUtf8, ◌+◌, ◌-◌, ◌/◌, max, take, drop, get_or, append_assoc, nat_lt, slice_index, sum_by, zero-add, inl, inr, cond, length-append}
 use Rattle.std.proofs.lemmas.List.{length-map, drop-map, drop_more, map-append, take-map, take-take, take_more}
 use Rattle.std.proofs.lemmas.List.Elements.{All-map}
 use Rattle.std.proofs.Math.Utf8.{encode}
@@ -21,7 +19,7 @@ use Rattle.ruled_table.specs.Shown.{color_beside, color_of, tint_of, escape_of, 
 use Rattle.ruled_table.specs.declared.options.Options.{Options}
 use Rattle.ruled_table.specs.declared.blocks.Blocks.{Blocks}
 use Rattle.std.proofs.lemmas.Option.{same_Some, none-some}
-use Rattle.std.specs.List.{list_all, range_with_len, fold, zip}
+use Rattle.std.specs.List.{list_all, range_with_len, fold, zip, join_with_byte}
 use Rattle.std.proofs.lemmas.Bool.{and_parts, true≢false, and_from, cases_Bool}
 use Rattle.std.proofs.lemmas.List.FromFn.{map-range_with_len_more, get_or-range_with_len, length-range_with_len}
 use Rattle.ruled_table.specs.Arranged.{both_ends, gap_of, last_of}
@@ -37,6 +35,14 @@ use Rattle.pg_fit.proofs.LawsOfControls.{letters_are_seen, visible_texts_stay}
 use Rattle.pg_table.specs.declared.overflow.Overflow.{Overflow}
 use Rattle.ruled_table.specs.Widths.{row_within, text_within}
 use Rattle.std.proofs.lemmas.List.Folds.{list_all-map}
+use Rattle.std.proofs.lemmas.List.Concat.{flat_map-cons}
+use Rattle.std.proofs.lemmas.List.Splits.{join_with_byte-slice_split}
+use Rattle.unicode_segmentation.specs.Grapheme.{graphemes, is_grapheme_break}
+use Rattle.unicode_segmentation.proofs.SegmentsLemmas.{length-segments}
+use Rattle.pg_fit.specs.declared.wrapping.Breaking.{Breaking}
+use Rattle.pg_fit.specs.declared.wrapping.Breaking.TheVariants.{Anywhere, BetweenWords}
+use Rattle.pg_fit.specs.Wrapping.{Piece, fits as fits_in, takes, filled, characters, words, indented, parted, pieces, wrapped_line, wrapped, before_words}
+use Rattle.pg_fit.proofs.LawsOfTexts.{EachLine, EachTexts, lines_of-lines, lines_stand, words-texts, indented-texts}
 
 -- ---- rows whose texts are fields of records, with names, sizes and escapes
 
@@ -460,6 +466,127 @@ cells-own options asked plan laid row fields cells same is pointed made =
     ∙ ap (λ (o : Options). row_within o.bounds.overflow laid.width (shown_row o laid.places fields)) same
     ∙ ap (λ (p : Plan). row_within options.bounds.overflow p.width (shown_row options p.places fields)) is
     ∙ ap (λ (texts : List Text). row_within options.bounds.overflow plan.width (shown_row options plan.places texts)) pointed
+
+-- ---- a wrapped text has at most a line more than bytes
+
+-- the bytes of pieces, each of which has some
+abbrev weight : List Piece → ℕ
+weight [] = 0
+weight (p ∷ ps) = (length p.gap + length p.text) + weight ps
+
+abbrev EachSome : List Piece → Type 0
+EachSome [] = Unit {0}
+EachSome (p ∷ ps) = (0 < length p.text) × EachSome ps
+
+before-weight : (b : ℕ) (ps : List Piece) → weight (before_words b ps) ≤ weight ps + 1
+before-weight b [] = elim (b == 32) as (λ v. weight (cond v [] (record { gap = []; text = b ∷ [] } ∷ [])) ≤ 1) [ true ↦ omega arith | false ↦ omega arith ]
+before-weight b (p ∷ ps) =
+    elim (b == 32) as (λ v. weight (cond v (record { gap = b ∷ p.gap; text = p.text } ∷ ps) (cond (length p.gap == 0) (record { gap = []; text = b ∷ p.text } ∷ ps) (record { gap = []; text = b ∷ [] } ∷ p ∷ ps))) ≤ weight (p ∷ ps) + 1) [
+      | true ↦ omega arith
+      | false ↦ elim (length p.gap == 0) as (λ w. weight (cond w (record { gap = []; text = b ∷ p.text } ∷ ps) (record { gap = []; text = b ∷ [] } ∷ p ∷ ps)) ≤ weight (p ∷ ps) + 1) [ true ↦ omega arith | false ↦ omega arith ]
+    ]
+
+before-some : (b : ℕ) (ps : List Piece) → EachSome ps → EachSome (before_words b ps)
+before-some b [] each = elim (b == 32) as (λ v. EachSome (cond v [] (record { gap = []; text = b ∷ [] } ∷ []))) [ true ↦ tt | false ↦ (omega arith, tt) ]
+before-some b (p ∷ ps) each =
+    elim (b == 32) as (λ v. EachSome (cond v (record { gap = b ∷ p.gap; text = p.text } ∷ ps) (cond (length p.gap == 0) (record { gap = []; text = b ∷ p.text } ∷ ps) (record { gap = []; text = b ∷ [] } ∷ p ∷ ps)))) [
+      | true ↦ each
+      | false ↦ elim (length p.gap == 0) as (λ w. EachSome (cond w (record { gap = []; text = b ∷ p.text } ∷ ps) (record { gap = []; text = b ∷ [] } ∷ p ∷ ps))) [ true ↦ (omega arith, each.1) | false ↦ (omega arith, each) ]
+    ]
+
+words-weight : (bs : Text) → weight (words bs) ≤ length bs
+words-weight [] = omega arith
+words-weight (b ∷ bs) = omega (arith, before-weight b (words bs), words-weight bs)
+
+words-some : (bs : Text) → EachSome (words bs)
+words-some [] = tt
+words-some (b ∷ bs) = before-some b (words bs) (words-some bs)
+
+indented-weight : (ps : List Piece) → weight (indented ps) ≤ weight ps
+indented-weight [] = omega arith
+indented-weight (p ∷ ps) = omega (arith, length-append p.gap p.text)
+
+indented-some : (ps : List Piece) → EachSome ps → EachSome (indented ps)
+indented-some [] each = tt
+indented-some (p ∷ ps) each = (omega (arith, length-append p.gap p.text, each.0), each.1)
+
+length-characters : (gap : Text) (cs : List Text) → length (characters gap cs) ≡ length cs
+length-characters gap [] = refl
+length-characters gap (c ∷ cs) = omega (arith, length-characters [] cs)
+
+length-graphemes : (gap line : Text) → IsUtf8 line → length (characters gap (graphemes true line)) ≤ length line
+length-graphemes gap line utf8 = omega (arith, length-characters gap (graphemes true line), length-segments (is_grapheme_break true) line utf8)
+
+length-parted : (width : ℕ) (p : Piece) → IsUtf8 p.text → 0 < length p.text → length (parted width p) ≤ length p.text
+length-parted width p utf8 some =
+    elim (fits_in width p.text) as (λ v. length (cond v (p ∷ []) (characters p.gap (graphemes true p.text))) ≤ length p.text) [ true ↦ omega (arith, some) | false ↦ length-graphemes p.gap p.text utf8 ]
+
+all-parted : (width : ℕ) (ps : List Piece) → EachTexts ps → EachSome ps → length (flat_map (parted width) ps) ≤ weight ps
+all-parted width [] utf8 some = omega arith
+all-parted width (p ∷ ps) utf8 some =
+    omega (
+      arith,
+      ap (λ (qs : List Piece). length qs) (flat_map-cons (parted width) p ps),
+      length-append (parted width p) (flat_map (parted width) ps),
+      length-parted width p utf8.1 some.0,
+      all-parted width ps utf8.2 some.1,
+    )
+
+length-pieces : (breaking : Breaking) (width : ℕ) (line : Text) → IsUtf8 line → length (pieces breaking width line) ≤ length line
+length-pieces Anywhere width line utf8 = length-graphemes [] line utf8
+length-pieces BetweenWords width line utf8 =
+    omega (
+      arith,
+      all-parted width (indented (words line)) (indented-texts (words line) (words-texts line utf8)) (indented-some (words line) (words-some line)),
+      indented-weight (words line),
+      words-weight line,
+    )
+
+length-filled : (width : ℕ) (line : Text) (ps : List Piece) → length (filled width line ps) ≤ length ps + 1
+length-filled width line [] = omega arith
+length-filled width line (p ∷ ps) =
+    elim (takes width line p) as (λ v. length (cond v (filled width (line ++ (p.gap ++ p.text)) ps) (line ∷ filled width p.text ps)) ≤ length (p ∷ ps) + 1) [
+      | true ↦ omega (arith, length-filled width (line ++ (p.gap ++ p.text)) ps)
+      | false ↦ omega (arith, length-filled width p.text ps)
+    ]
+
+length-line : (breaking : Breaking) (width : ℕ) (line : Text) → IsUtf8 line → length (wrapped_line breaking width line) ≤ length line + 1
+unfolding wrapped_line
+length-line breaking width line utf8 =
+    elim (fits_in width line) as (λ v. length (cond v (line ∷ []) (filled width [] (pieces breaking width line))) ≤ length line + 1) [
+      | true ↦ omega arith
+      | false ↦ omega (arith, length-filled width [] (pieces breaking width line), length-pieces breaking width line utf8)
+    ]
+
+module _ (breaking : Breaking) (width : ℕ) where
+  length-lines : (ls : List Text) → EachLine ls → length (flat_map (wrapped_line breaking width) ls) ≤ length (join_with_byte 10 ls) + 1
+  length-lines [] each = omega arith
+  length-lines (l ∷ []) each =
+      omega (
+        arith,
+        ap (λ (qs : List Text). length qs) (flat_map-cons (wrapped_line breaking width) l []),
+        length-append (wrapped_line breaking width l) (flat_map (wrapped_line breaking width) []),
+        length-line breaking width l each.0.0,
+      )
+  length-lines (l ∷ m ∷ ls) each =
+      omega (
+        arith,
+        ap (λ (qs : List Text). length qs) (flat_map-cons (wrapped_line breaking width) l (m ∷ ls)),
+        length-append (wrapped_line breaking width l) (flat_map (wrapped_line breaking width) (m ∷ ls)),
+        length-append l (10 ∷ join_with_byte 10 (m ∷ ls)),
+        length-line breaking width l each.0.0,
+        length-lines (m ∷ ls) each.1,
+      )
+
+  pub length-wrapped : (text : Text) → IsUtf8 text → length (lines_of (wrapped breaking width text)) ≤ length text + 1
+  unfolding lines_of
+  length-wrapped text utf8 =
+      omega (
+        arith,
+        ap (λ (ls : List Text). length ls) (lines_stand breaking width text utf8),
+        length-lines (lines_of text) (lines_of-lines text utf8),
+        ap (λ (t : Text). length t) (join_with_byte-slice_split 10 text),
+      )
 
 -- the field at a place, and none
 pub ruleset fields_found = (field_missing, field_there)

@@ -1,7 +1,5 @@
 -- Tables of rows: their looks and sizes, before the first row and after the last, and natural widths of texts with a space at each side.
-use Rattle.std.proofs.Common.{◌≡◌, ◌∷◌, ◌++◌, ℕ, List, [], length, true, false, refl, None, Some, Option, Result, Ok, Err, sym, ap, ◌∙◌, ◌-◌, zero, suc, max, String, ◌≢◌, ◌⊎◌}
-use Rattle.std.proofs.Common.{slice_index_or, IfOk, inl, inr, subst, ◌<◌, arith, add-one, take, rules, ◌+◌, ◌*◌, Bool, string_bytes, append-nil, append_assoc, ◌≤◌, ◌^◌, ◌==◌, ◌||◌, count_by}
-use Rattle.std.proofs.Common.{drop, map, slice_index, nat_lt, ap₂}
+use Rattle.std.proofs.Common.{◌≡◌, ◌∷◌, ◌++◌, ℕ, List, [], length, true, false, refl, None, Some, Option, Result, Ok, Err, sym, ap, ◌∙◌, ◌-◌, zero, suc, max, String, ◌≢◌, ◌⊎◌, slice_index_or, IfOk, inl, inr, subst, ◌<◌, arith, add-one, take, rules, ◌+◌, ◌*◌, Bool, string_bytes, append-nil, append_assoc, ◌≤◌, ◌^◌, ◌==◌, ◌||◌, count_by, drop, map, slice_index, nat_lt, ap₂, min, not, sum_by}
 use Rattle.std.specs.Prelude.{IsOk, OnErr, is_none, if◌then◌else◌, ⊤, ◌↔◌}
 use Rattle.pg_layout.specs.Text.{Text, greatest, text_width_of}
 use Rattle.pg_layout.specs.Records.{columns_of, text_at}
@@ -19,20 +17,19 @@ use Rattle.std.specs.Result.{IsErrAnd, MatchResult}
 use Rattle.ruled_table.specs.declared.view.ViewFault.{ViewFault}
 use Rattle.std.proofs.Math.Seq.{drop-nil}
 use Rattle.ruled_table.specs.Arranged.{arranged, chosen_rows, ends_of, last_of, tails}
-use Rattle.ruled_table.specs.Columns.{column_fault, drawn_at, fields_at, texts_at}
+use Rattle.ruled_table.specs.Columns.{column_fault, drawn_at, fields_at, texts_at, texts_of}
 use Rattle.ruled_table.specs.Shown.{heads, limit_of, up_to, line_in, sided_config}
 use Rattle.ruled_table.specs.declared.options.Options.{Options}
-use Rattle.std.proofs.lemmas.Bool.{true≢false, cases_Bool, and_parts}
+use Rattle.std.proofs.lemmas.Bool.{true≢false, cases_Bool, and_parts, and_from, cases_lt}
 use Rattle.pg_layout.specs.Colors.{Color}
 use Rattle.pg_layout.specs.declared.dimension.ConstantDimension.{ConstantDimension}
 use Rattle.pg_layout.specs.declared.position.Position.{Position}
-use Rattle.pg_table.specs.Natural.{natural_sizes, cell_size, is_sized, paddings}
+use Rattle.pg_table.specs.Natural.{natural_sizes, cell_size, is_sized, paddings, all_fit, natural_size}
 use Rattle.pg_table.specs.Printing.{Prints, sizes_fault}
 use Rattle.pg_picture.proofs.Appending.{Appends-beginning}
-use Rattle.pg_table.specs.Spanning.{table_from}
+use Rattle.pg_table.specs.Spanning.{table_from, keeps_spans, spanned_widths, widths_from}
 use Rattle.pg_table.specs.declared.fault.TableFault.{TableFault}
-use Rattle.pg_table.specs.declared.fault.TableFault.TheVariants as table
-use Rattle.ruled_table.specs.Widths.{TellsTable, first_config, HasSpaces, natural_fault, natural_widths}
+use Rattle.ruled_table.specs.Widths.{TellsTable, first_config, HasSpaces, natural_fault, natural_widths, AreSpaced, HasRoom, IsLowered, lowered, widest_wrapped}
 use Rattle.std.proofs.lemmas.Option.{none-some}
 use Rattle.pg_config.specs.Spans.{has_row_spans, Span}
 use Rattle.pg_picture.specs.declared.fits.Misfit.{Misfit}
@@ -42,14 +39,13 @@ use Rattle.pg_stream.specs.LiveStreams.{Living}
 use Rattle.pg_stream.specs.Printing.{printer}
 use Rattle.pg_stream.specs.SizedStreams.{sized_misfit}
 use Rattle.pg_stream.specs.declared.fault.StreamFault.{StreamFault}
-use Rattle.pg_stream.specs.declared.fault.StreamFault.TheVariants as stream
 use Rattle.ruled_table.specs.Layouts.{start_fault, start_of, Plan, with_colors}
 use Rattle.ruled_table.specs.RowLines.{HasPrinted, after_rows}
-use Rattle.std.specs.List.{range_with_len}
+use Rattle.std.specs.List.{range_with_len, All}
 use Rattle.std.proofs.lemmas.Bool.Decides.{nat_tests}
 use Rattle.std.proofs.lemmas.List.{get_or-map, length-map, length-take, length-drop}
-use Rattle.std.proofs.lemmas.List.FromFn.{fill_by_all}
-use Rattle.std.proofs.lemmas.List.Sums.{count_by-le-length}
+use Rattle.std.proofs.lemmas.List.FromFn.{fill_by_all, get_or-map-range_with_len, length-map-range_with_len}
+use Rattle.std.proofs.lemmas.List.Sums.{count_by-le-length, sum_by-cons}
 use Rattle.csv.specs.Records.{Row, cut_from, fields_of}
 use Rattle.pg_layout.specs.Position.{at}
 use Rattle.pg_layout.proofs.TextLines.{is_feed, length-lines_of}
@@ -59,11 +55,31 @@ use Rattle.pg_picture.specs.Fits.{spans_fit}
 use Rattle.pg_picture.specs.Pieces.{shown, widest}
 use Rattle.pg_picture.proofs.OwnersOfPlaces.{InOrder}
 use Rattle.pg_picture.proofs.PlacesOfTexts.{length-shown, widest-untrimmed}
-use Rattle.pg_table.specs.Inside.{plain_size}
+use Rattle.pg_table.specs.Inside.{plain_size, HasPlainWidths}
 use Rattle.pg_table.specs.declared.sizes.Axis.TheVariants.{Columns, Rows}
 use Rattle.pg_table.proofs.Faults.{cells-no_fault}
 use Rattle.pg_table.proofs.NaturalRoom.{map-below, plain-covers, plain-naturals, plain-widths}
 use Rattle.pg_table.proofs.ShownCells.{cells-from, sized-from}
+use Rattle.pg_layout.specs.declared.alignment.Formatting.{Formatting}
+use Rattle.pg_fit.specs.declared.narrowing.ColumnRange.{ColumnRange}
+use Rattle.pg_fit.specs.declared.wrapping.Breaking.{Breaking}
+use Rattle.pg_fit.specs.Narrowing.{natural_total}
+use Rattle.pg_fit.specs.Wrapping.{wrapped}
+use Rattle.pg_fit.proofs.LawsOfTexts.{fitting_texts_stay}
+use Rattle.pg_fit.proofs.NarrowedWidths.{stay_natural}
+use Rattle.pg_table.specs.Fitted.{column_range, column_ranges, column_texts, column_widths, fit_fault, fitted_at, fitted_table, fitted_text, fitted_texts, least_column_width}
+use Rattle.pg_table.specs.Overflowing.{beside_columns, least_text_width, limit_of as limit_at}
+use Rattle.pg_table.specs.declared.overflow.Overflow.{Overflow}
+use Rattle.pg_table.specs.declared.overflow.Overflow.TheVariants.{Wrap}
+use Rattle.pg_table.proofs.FitFaults.{fault-none}
+use Rattle.pg_table.proofs.FittedColumns.{fitted_text-overflows, fitted_text-stays, greatest-below, least-below, length-fitted, natural-at}
+use Rattle.pg_table.proofs.ListedSizes.{all_fit-each, size-at}
+use Rattle.pg_table.proofs.ToldTables.{plain-widths as told-widths}
+use Rattle.ruled_table.specs.declared.lent_rows.LentRows.{LentRows}
+use Rattle.pg_table.proofs.Widenings.{sum-same}
+use Rattle.ruled_table.proofs.LentTexts.{length-wrapped}
+use Rattle.pg_table.specs.declared.fault.TableFault.TheVariants as table
+use Rattle.pg_stream.specs.declared.fault.StreamFault.TheVariants as stream
 
 -- ---- the text of a table of rows, by whether there are any
 
@@ -371,18 +387,23 @@ module _ (config : Config) (spaces : HasSpaces config) (texts : List (List Text)
       fill_by_all (plain_size Columns config (text_at texts) (length texts)) widths (columns_of texts) 0 long (λ k h. each k h ∙ sym (column-width k))
       ∙ plain-naturals config texts (columns_of texts) (plain-widths config (length texts) (columns_of texts) spaces.spans)
 
-  -- where they can be counted, and texts are in memory, nothing is wrong with them
-  pub spaced-fault : 0 < columns_of texts → ((k : ℕ) → k < columns_of texts → widest_text texts k + 2 < 2 ^ 64) → ((r c : ℕ) → length (text_at texts (at r c)) < 2 ^ 63) → natural_fault config texts ≡ None
-  spaced-fault some wide short =
+  -- where they can be counted, and the lines of texts too, nothing is wrong with them
+  pub spaced-fault : 0 < columns_of texts → ((k : ℕ) → k < columns_of texts → widest_text texts k + 2 < 2 ^ 64)
+      → ((r c : ℕ) → r < length texts → c < columns_of texts → count_by is_feed (text_at texts (at r c)) + 1 < 2 ^ 64) → natural_fault config texts ≡ None
+  spaced-fault some wide high =
       let rows : 0 < length texts = some-rows texts some in
       let cells : ((length texts == 0) || (columns_of texts == 0)) ≡ false = grind (arith, nat_tests, some, rows) in
       let sized : (r c : ℕ) → r < length texts → c < columns_of texts → is_sized config (text_at texts) (at r c) ≡ true = λ r c h l.
       sized-from config (text_at texts) (at r c)
       (omega (arith, plain-covers Columns config (text_at texts) (length texts) c r h, column-width c, wide c l))
-      (omega (arith, spaces.above (at r c), text-height (at r c), count_by-le-length is_feed (text_at texts (at r c)), short r c))
+      (omega (arith, spaces.above (at r c), text-height (at r c), high r c h l))
       in
       cells-no_fault config texts (columns_of texts) cells (none-in-order config.spans (length texts) (columns_of texts) spaces.spans)
       (cells-from config (text_at texts) (length texts) (columns_of texts) (λ r c h l there. sized r c h l))
+
+  -- no text is wider than the widest
+  pub widest-covers : (r k : ℕ) → r < length texts → text_width_of (text_at texts (at r k)) ≤ widest_text texts k
+  widest-covers r k h = omega (arith, plain-covers Columns config (text_at texts) (length texts) k r h, column-width k, spaces.beside (at r k), text-width (at r k))
 
 -- ---- texts of records in memory
 
@@ -418,3 +439,241 @@ counted-texts places (row ∷ records) counted zero c =
     let short : length row.bytes < 2 ^ 63 = let here = (and_parts (nat_lt (length row.bytes) (2 ^ 63)) (are_counted records) counted).0 in grind (arith, nat_tests, here) in
     row-length row places c short
 counted-texts places (row ∷ records) counted (suc r) c = counted-texts places records (and_parts (nat_lt (length row.bytes) (2 ^ 63)) (are_counted records) counted).1 r c
+
+pub feeds-counted : (places : List (Option ℕ)) (records : List Row) → are_counted records ≡ true → (r c : ℕ) → count_by is_feed (text_at (texts_at places records) (at r c)) + 1 < 2 ^ 64
+feeds-counted places records counted r c =
+    omega (arith, count_by-le-length is_feed (text_at (texts_at places records) (at r c)), counted-texts places records counted r c)
+
+-- ---- tables whose texts are wrapped
+
+-- a text that fits stays where texts are wrapped
+fitted-wrapped : (breaking : Breaking) (formatting : Formatting) (room : ℕ) (text : Text) → widest formatting text ≡ text_width_of text → fitted_text (Wrap breaking) formatting room text ≡ wrapped breaking room text
+fitted-wrapped breaking formatting room text same =
+    elim (cases_lt room (widest formatting text)) [
+      | inl wide ↦ fitted_text-overflows (Wrap breaking) formatting room text wide
+      | inr low ↦ fitted_text-stays (Wrap breaking) formatting room text low ∙ sym (fitting_texts_stay breaking room text (omega (arith, low, same)))
+    ]
+
+widest-stays : (breaking : Breaking) (room column : ℕ) (rows : List (List Text)) → widest_text rows column ≤ room → widest_wrapped breaking room rows column ≡ widest_text rows column
+widest-stays breaking room column [] low = refl
+widest-stays breaking room column (row ∷ rows) low =
+    let text : Text = slice_index_or row column [] in
+    omega (arith, ap text_width_of (fitting_texts_stay breaking room text (omega (arith, low))), widest-stays breaking room column rows (omega (arith, low)))
+
+no-spans : (config : Config) (texts : List (List Text)) (columns : ℕ) → config.spans ≡ [] → keeps_spans config texts columns ≡ false
+no-spans config texts columns none =
+    let plain : not (length config.spans == 0) ≡ false = ap (λ (spans : List Span). not (length spans == 0)) none in
+    grind (arith, plain)
+
+module _ (breaking : Breaking) (total : ℕ) (limits : List ℕ) (config : Config) (spaces : HasSpaces config) (texts : List (List Text)) where
+  abbrev how : Overflow
+  how = Wrap breaking
+
+  abbrev columns : ℕ
+  columns = columns_of texts
+
+  abbrev limit : ℕ → ℕ
+  limit k = limit_at limits k
+
+  abbrev natural : ℕ → ℕ
+  natural k = widest_text texts k + 2
+
+  abbrev low : ℕ → ℕ
+  low k = min (natural k) (limit k)
+
+  abbrev range : ℕ → ColumnRange
+  range = column_range how total limits config texts columns
+
+  abbrev fitted : List (List Text)
+  fitted = column_texts how total limits config texts columns
+
+  plain : HasPlainWidths config (length texts) columns
+  plain = plain-widths config (length texts) columns spaces.spans
+
+  cell-text : (r k : ℕ) → widest (get_formatting config (at r k)) (text_at texts (at r k)) ≡ text_width_of (text_at texts (at r k))
+  cell-text r k = text-width config spaces texts (at r k)
+
+  natural-is : (k : ℕ) → k < columns → slice_index (natural_sizes Columns config texts columns) k ≡ natural k
+  natural-is k h = natural-at how total limits config texts columns plain k h ∙ column-width config spaces texts k
+
+  -- where each character of a column has room within its limit
+  module _ (rooms : (k : ℕ) → k < columns → limit k < natural k → (2 ≤ limit k) × All (λ row. HasRoom breaking (limit k - 2) (slice_index_or row k [])) texts) where
+    least-limited : (k : ℕ) → k < columns → limit k < natural k → least_column_width how config (text_at texts) (length texts) k ≤ limit k
+    unfolding least_column_width
+    least-limited k h narrow =
+        let room = rooms k h narrow in
+        let cell : ℕ → ℕ = λ r. paddings Columns config (at r k) + least_text_width how config (text_at texts) (at r k) in
+        let each : (r : ℕ) → 0 ≤ r → r < 0 + length texts → cell r ≤ limit k = λ r _ l.
+        let own : HasRoom breaking (limit k - 2) (text_at texts (at r k)) = room.1 r [] (omega (arith, l)) in
+        omega (arith, spaces.beside (at r k), cell-text r k, own.characters, room.0)
+        in
+        omega (arith, spaces.beside (at 0 k), room.0, greatest-below cell 0 (length texts) (limit k) each)
+
+    least-low : (k : ℕ) → k < columns → least_column_width how config (text_at texts) (length texts) k ≤ low k
+    least-low k h =
+        let below : least_column_width how config (text_at texts) (length texts) k ≤ natural k = omega (arith, least-below how total limits config texts columns k, column-width config spaces texts k) in
+        elim (cases_lt (limit k) (natural k)) [ inl narrow ↦ omega (arith, below, least-limited k h narrow) | inr wide ↦ omega (arith, below, wide) ]
+
+    share-low : (k : ℕ) → k < columns → max (range k).least (range k).natural ≡ low k
+    share-low k h = omega (arith, natural-is k h, least-low k h)
+
+    total-low : (a n : ℕ) → a + n ≤ columns → natural_total (map range (range_with_len a n)) ≡ sum_by low (range_with_len a n)
+    total-low a zero h = refl
+    total-low a (suc n) h =
+        omega (
+          arith,
+          sum_by-cons (λ (c : ColumnRange). max c.least c.natural) (range a) (map range (range_with_len (a + 1) n)),
+          sum_by-cons low a (range_with_len (a + 1) n),
+          share-low a (omega (arith, h)),
+          total-low (a + 1) n (omega (arith, h)),
+        )
+
+    listed-low : (a n : ℕ) → a + n ≤ columns → map (λ (c : ColumnRange). max c.least c.natural) (map range (range_with_len a n)) ≡ map low (range_with_len a n)
+    listed-low a zero h = refl
+    listed-low a (suc n) h =
+        ap (λ (w : ℕ). w ∷ map (λ (c : ColumnRange). max c.least c.natural) (map range (range_with_len (a + 1) n))) (share-low a (omega (arith, h)))
+        ∙ ap (λ (ws : List ℕ). low a ∷ ws) (listed-low (a + 1) n (omega (arith, h)))
+
+    -- and the columns, lowered to their limits, within the line
+    module _ (fits : sum_by low (range_with_len 0 columns) ≤ total - beside_columns config columns) where
+      widths-low : column_widths how total limits config texts columns ≡ map low (range_with_len 0 columns)
+      unfolding column_widths
+      widths-low = stay_natural (total - beside_columns config columns) (column_ranges how total limits config texts columns) (omega (arith, total-low 0 columns (omega arith), fits)) ∙ listed-low 0 columns (omega arith)
+
+      room-low : (r k : ℕ) → k < columns → slice_index (column_widths how total limits config texts columns) k - paddings Columns config (at r k) ≡ low k - 2
+      room-low r k h = omega (arith, ap (λ (ws : List ℕ). slice_index ws k) widths-low, size-at low columns k h, spaces.beside (at r k))
+
+      length-fitted-low : length fitted ≡ length texts
+      length-fitted-low = length-fitted how total limits config texts columns
+
+      fitted-low : (r k : ℕ) → r < length texts → k < columns → text_at fitted (at r k) ≡ wrapped breaking (low k - 2) (text_at texts (at r k))
+      unfolding column_texts
+      fitted-low r k h l =
+          ap (λ (row : List Text). slice_index_or row k []) (get_or-map-range_with_len (λ i. map (λ j. fitted_at how total limits config texts columns (at i j)) (range_with_len 0 columns)) 0 (length texts) r r [] h (omega arith))
+          ∙ get_or-map-range_with_len (λ j. fitted_at how total limits config texts columns (at r j)) 0 columns k k [] l (omega arith)
+          ∙ ap (λ (n : ℕ). fitted_text how (get_formatting config (at r k)) n (text_at texts (at r k))) (room-low r k l)
+          ∙ fitted-wrapped breaking (get_formatting config (at r k)) (low k - 2) (text_at texts (at r k)) (cell-text r k)
+
+      widest-low : (k : ℕ) → k < columns → widest_text fitted k ≡ widest_wrapped breaking (low k - 2) texts k
+      widest-low k h =
+          let before : List Text → ℕ = λ row. text_width_of (wrapped breaking (low k - 2) (slice_index_or row k [])) in
+          let after : List Text → ℕ = λ row. text_width_of (slice_index_or row k []) in
+          ap greatest
+          (sym (listed after fitted [] 0)
+          ∙ ap (λ (n : ℕ). map (λ j. after (slice_index_or fitted j [])) (range_with_len 0 n)) length-fitted-low
+          ∙ map-below (λ j. after (slice_index_or fitted j [])) (λ j. before (slice_index_or texts j [])) (length texts) (λ j l. ap text_width_of (fitted-low j k l h))
+          ∙ listed before texts [] 0)
+
+      columns-fitted : 0 < columns → columns_of fitted ≡ columns
+      unfolding column_texts
+      columns-fitted some = columns-of-fitted (length texts) (some-rows texts some)
+        where
+          columns-of-fitted : (n : ℕ) → 0 < n → columns_of (map (λ i. map (λ j. fitted_at how total limits config texts columns (at i j)) (range_with_len 0 columns)) (range_with_len 0 n)) ≡ columns
+          columns-of-fitted zero none = absurd (omega (arith, none))
+          columns-of-fitted (suc n) more = length-map-range_with_len (λ j. fitted_at how total limits config texts columns (at 0 j)) 0 columns
+
+      -- columns that are lowered
+      module _ (some : 0 < columns) (few : columns < 2 ^ 64 - 1) (counted : (k : ℕ) → k < columns → natural k < 2 ^ 64) (widths : List ℕ) (long : length widths ≡ columns)
+          (lower : (k : ℕ) → k < columns → IsLowered breaking (limit k) texts k (natural k) (slice_index widths k))
+          (high : (r c : ℕ) → count_by is_feed (text_at texts (at r c)) + 1 < 2 ^ 64)
+        where
+          width-low : (k : ℕ) → k < columns → slice_index widths k ≡ widest_text fitted k + 2
+          width-low k h =
+              elim (cases_lt (limit k) (natural k)) [
+                | inl narrow ↦
+                    let there : low k - 2 ≡ limit k - 2 = omega (arith, narrow) in
+                    omega (arith, widest-low k h, ap (λ (n : ℕ). widest_wrapped breaking n texts k) there, ((lower k h).wrapped narrow).is)
+                | inr wide ↦
+                    let there : low k - 2 ≡ widest_text texts k = omega (arith, wide) in
+                    omega (arith, widest-low k h, ap (λ (n : ℕ). widest_wrapped breaking n texts k) there, widest-stays breaking (widest_text texts k) k texts (omega arith), (lower k h).kept wide)
+              ]
+
+          width-counted : (k : ℕ) → k < columns → slice_index widths k < 2 ^ 64
+          width-counted k h =
+              elim (cases_lt (limit k) (natural k)) [
+                | inl narrow ↦ omega (arith, ((lower k h).wrapped narrow).within, narrow, counted k h)
+                | inr wide ↦ omega (arith, (lower k h).kept wide, counted k h)
+              ]
+
+          high-low : (r k : ℕ) → r < length texts → k < columns → count_by is_feed (text_at fitted (at r k)) + 1 < 2 ^ 64
+          high-low r k h l =
+              let text : Text = text_at texts (at r k) in
+              elim (cases_lt (limit k) (natural k)) [
+                | inl narrow ↦
+                    let there : low k - 2 ≡ limit k - 2 = omega (arith, narrow) in
+                    let own : HasRoom breaking (limit k - 2) text = ((lower k l).wrapped narrow).room r [] h in
+                    omega (
+                      arith,
+                      ap (λ (t : Text). count_by is_feed t) (fitted-low r k h l ∙ ap (λ (n : ℕ). wrapped breaking n text) there),
+                      length-lines_of (wrapped breaking (limit k - 2) text),
+                      length-wrapped breaking (limit k - 2) text own.encoded,
+                      own.counted,
+                    )
+                | inr wide ↦
+                    let fit : text_width_of text ≤ low k - 2 = omega (arith, wide, widest-covers config spaces texts r k h) in
+                    omega (arith, ap (λ (t : Text). count_by is_feed t) (fitted-low r k h l ∙ fitting_texts_stay breaking (low k - 2) text fit), high r k)
+              ]
+
+          widths-fitted : widths ≡ natural_sizes Columns config fitted columns
+          widths-fitted =
+              spaced-widths config spaces fitted widths (long ∙ sym (columns-fitted some)) (λ k h. width-low k (omega (arith, h, columns-fitted some)))
+              ∙ ap (λ (n : ℕ). natural_sizes Columns config fitted n) (columns-fitted some)
+
+          texts-plain : fitted_texts how total limits config texts columns ≡ fitted
+          unfolding fitted_texts
+          texts-plain = rw (no-spans config texts columns spaces.spans) refl
+
+          pub widths-wrapped : (λ (column : ℕ). slice_index_or widths column 0) ≡ (fitted_table how total limits config texts columns (λ place. None)).width
+          widths-wrapped =
+              let told : List ℕ = spanned_widths how total limits config texts columns in
+              ap (λ (ws : List ℕ). λ (column : ℕ). slice_index_or ws column 0)
+              (widths-fitted
+              ∙ sym (told-widths told config fitted columns (no-spans config fitted columns spaces.spans))
+              ∙ ap (λ (ts : List (List Text)). widths_from told config ts columns) (sym texts-plain))
+
+          pub fault-wrapped : option_or (fit_fault config texts columns) (sizes_fault config (fitted_texts how total limits config texts columns) columns) ≡ None
+          unfolding natural_sizes
+          fault-wrapped =
+              let rows : 0 < length texts = some-rows texts some in
+              let cells : ((length texts == 0) || (columns == 0)) ≡ false = grind (arith, nat_tests, some, rows) in
+              let none : not (length config.spans == 0) ≡ false = ap (λ (spans : List Span). not (length spans == 0)) spaces.spans in
+              let few-columns : nat_lt columns (2 ^ 64 - 1) ≡ true = grind (arith, nat_tests, few) in
+              let wide : all_fit (natural_sizes Columns config texts columns) ≡ true = all_fit-each (natural_size Columns config (text_at texts) (length texts) columns) columns (λ k h. omega (arith, natural-is k h, counted k h, size-at (natural_size Columns config (text_at texts) (length texts) columns) columns k h)) in
+              let own : fit_fault config texts columns ≡ None = fault-none config texts columns cells none (and_from _ _ few-columns wide) in
+              let later : natural_fault config fitted ≡ None =
+              spaced-fault config spaces fitted (omega (arith, some, columns-fitted some))
+              (λ k h. let inside : k < columns = omega (arith, h, columns-fitted some) in omega (arith, width-low k inside, width-counted k inside))
+              (λ r c h l. high-low r c (omega (arith, h, length-fitted-low)) (omega (arith, l, columns-fitted some)))
+              in
+              rw own (ap (λ (ts : List (List Text)). sizes_fault config ts columns) texts-plain ∙ sym (ap (λ (n : ℕ). sizes_fault config fitted n) (columns-fitted some)) ∙ later)
+
+-- widths of columns that are found by wrapping texts are those of the fitted table, which has no fault
+pub found-widths : (breaking : Breaking) (total : ℕ) (limits : List ℕ) (config : Config) (spaces : HasSpaces config) (records : LentRows) (old new : List ℕ) → AreSpaced records old → length old < 2 ^ 64 - 1
+    → sum_by (lowered old limits) (range_with_len 0 (length old)) ≤ total - beside_columns config (length old) → length new ≡ length old
+    → ((k : ℕ) → k < length old → IsLowered breaking (limit_at limits k) (texts_of records) k (slice_index old k) (slice_index new k))
+    → ((λ (column : ℕ). slice_index_or new column 0) ≡ (fitted_table (Wrap breaking) total limits config (texts_of records) (columns_of (texts_of records)) (λ place. None)).width)
+    × (option_or (fit_fault config (texts_of records) (columns_of (texts_of records))) (sizes_fault config (fitted_texts (Wrap breaking) total limits config (texts_of records) (columns_of (texts_of records))) (columns_of (texts_of records))) ≡ None)
+found-widths breaking total limits config spaces records old new spaced few fits long lower =
+    let texts : List (List Text) = texts_of records in
+    let columns : ℕ = columns_of texts in
+    let natural : ℕ → ℕ = λ k. widest_text texts k + 2 in
+    let inside : (k : ℕ) → k < columns → k < length old = λ k h. omega (arith, h, spaced.columns) in
+    let lower' : (k : ℕ) → k < columns → IsLowered breaking (limit_at limits k) texts k (natural k) (slice_index new k) = λ k h.
+    subst (λ (n : ℕ). IsLowered breaking (limit_at limits k) texts k n (slice_index new k)) (spaced.each k (inside k h)) (lower k (inside k h))
+    in
+    let rooms : (k : ℕ) → k < columns → limit_at limits k < natural k → (2 ≤ limit_at limits k) × All (λ row. HasRoom breaking (limit_at limits k - 2) (slice_index_or row k [])) texts = λ k h narrow.
+    let own = (lower' k h).wrapped narrow in (own.spaces, own.room)
+    in
+    let same : sum_by (lowered old limits) (range_with_len 0 (length old)) ≡ sum_by (λ k. min (natural k) (limit_at limits k)) (range_with_len 0 (length old)) =
+    sum-same (lowered old limits) (λ k. min (natural k) (limit_at limits k)) 0 (length old) (λ k _ h. ap (λ (n : ℕ). min n (limit_at limits k)) (spaced.each k (omega (arith, h))))
+    in
+    let fit' : sum_by (λ k. min (natural k) (limit_at limits k)) (range_with_len 0 (length old)) ≤ total - beside_columns config (length old) = omega (arith, same, fits) in
+    let fit : sum_by (λ k. min (natural k) (limit_at limits k)) (range_with_len 0 columns) ≤ total - beside_columns config columns = rw spaced.columns at fit' in
+    let some : 0 < columns = omega (arith, spaced.some, spaced.columns) in
+    let less : columns < 2 ^ 64 - 1 = omega (arith, few, spaced.columns) in
+    let counted : (k : ℕ) → k < columns → natural k < 2 ^ 64 = λ k h. spaced.counted k (inside k h) in
+    let high : (r c : ℕ) → count_by is_feed (text_at texts (at r c)) + 1 < 2 ^ 64 = feeds-counted records.places.now records.records.now spaced.short in
+    let same_length : length new ≡ columns = long ∙ spaced.columns in (
+      widths-wrapped breaking total limits config spaces texts rooms fit some less counted new same_length lower' high,
+      fault-wrapped breaking total limits config spaces texts rooms fit some less counted new same_length lower' high,
+    )

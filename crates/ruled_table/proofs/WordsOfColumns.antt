@@ -1,26 +1,37 @@
--- Words that ask for columns, and those that leave them out.
-use Rattle.std.proofs.Common.{◌≡◌, ◌≢◌, ◌∙◌, ◌∷◌, ◌++◌, ◌+◌, ◌<◌, ◌≤◌, ◌^◌, ◌==◌, ◌&&◌, ◌||◌, not, cond, nat_lt, ℕ, suc, List, [], Bool, true, false, Option, Some, None, Result, Ok, Err, Bor, String, string_bytes, length, map, option_map, drop, get_or, nat_eq, take, zero-add, refl, sym, ap, ap₂, arith, rules}
+-- Words that ask for columns, and those that leave them out; texts that are numbers; and sorted lists.
+use Rattle.std.proofs.Common.{◌≡◌, ◌≢◌, ◌∙◌, ◌∷◌, ◌++◌, ◌+◌, ◌<◌, ◌≤◌, ◌^◌, ◌==◌, ◌&&◌, ◌||◌, not, cond, nat_lt, ℕ, suc, List, [], Bool, true, false, Option, Some, None, Result, Ok, Err, Bor, String, string_bytes, length, map, option_map, drop, get_or, nat_eq, take, zero-add, refl, sym, ap, ap₂, arith, rules, ◌-◌, subst, zero, inl, inr}
 use Rattle.std.specs.Prelude.{Any, IsErrAnd, is_none, is_ok, reverse, unwrap_or, ◌↔◌}
-use Rattle.std.specs.List.{list_all, list_any, filter, flat_map, position_from, position_or_len, range_with_len, starts_with}
+use Rattle.std.specs.List.{list_all, list_any, filter, flat_map, position_from, position_or_len, range_with_len, starts_with, position, prefix_len}
 use Rattle.std.specs.Option.{MatchOption, option_or}
 use Rattle.std.specs.Str.Parse.{digits_value, ParsesUnsigned}
 use Rattle.std.specs.Str.{bytes_eq}
 use Rattle.std.specs.Str.Iter.{HasSubslice}
-use Rattle.std.proofs.lemmas.Bool.{and_parts, and_right, cond-false, cond-true, eq-eqb, eqb-false, false_from_ne_true, ltb-true, ne_eqb, not-true, true≢false}
-use Rattle.std.proofs.lemmas.List.{drop_more, flat_map_more, take_more, length-append, reverse-append, reverse-reverse, take-append-drop}
+use Rattle.std.proofs.lemmas.Bool.{and_parts, and_right, cond-false, cond-true, eq-eqb, eqb-false, false_from_ne_true, ltb-true, ne_eqb, not-true, true≢false, and_from, cases_Bool}
+use Rattle.std.proofs.lemmas.List.{drop_more, flat_map_more, take_more, length-append, reverse-append, reverse-reverse, take-append-drop, take_all}
 use Rattle.std.proofs.lemmas.List.FromFn.{get_or-range_with_len, length-range_with_len, map-range_with_len_more}
 use Rattle.std.proofs.lemmas.List.Folds.{Any-from_list_any, list_any_at, list_any_more}
 use Rattle.std.proofs.lemmas.Slice.Eq.{bytes_eq-Decides}
 use Rattle.std.proofs.Math.Seq.{drop-append_seam, take-append_seam}
 use Rattle.std.proofs.Math.ListN.{drop_of_length-le}
 use Rattle.std.proofs.lemmas.Str.Parse.{IsNumeralModel, numerals_by_value, parse_digits}
-use Rattle.std.proofs.lemmas.Option.{none-some}
+use Rattle.std.proofs.lemmas.Option.{none-some, same_Some}
 use Rattle.pg_layout.specs.Text.{Text}
 use Rattle.ruled_table.specs.Columns.{asked, asked_by, asked_or_all, before, behind, columns_in, columns_of, excluded, has_part, is_left_out, left_out_by, meant, missing_word, number_in}
 use Rattle.ruled_table.specs.Tables.{Tells, is_memory}
-use Rattle.ruled_table.specs.Numbers.{are_digits, is_digit}
+use Rattle.ruled_table.specs.Numbers.{are_digits, is_digit, is_figure, is_number, unsigned}
 use Rattle.ruled_table.specs.declared.view.ViewFault.{ViewFault}
 use Rattle.ruled_table.specs.declared.view.ViewFault.TheVariants.{Column}
+use Rattle.std.specs.Io.BufRead.{strip_last}
+use Rattle.std.proofs.lemmas.Bool.Decides.{nat_tests}
+use Rattle.std.specs.Cmp.{IsStrictWeakOrder, IsTotalOrder, bool_cmp_total}
+use Rattle.std.specs.List.Sorted.{IsSortedBy, IsStableBy, ties}
+use Rattle.std.proofs.lemmas.Cmp.{back_total, int_cmp_total, nat_list_cmp_total, on_total, then_total}
+use Rattle.std.proofs.lemmas.List.Sorted.{sorted_far}
+use Rattle.std.specs.Ordering.{is_lt}
+use Rattle.csv.specs.Records.{fields_of}
+use Rattle.ruled_table.specs.Order.{Ranked, is_before, number_order, order_of, rank_in, row_in, sorted_by, with_element, with_rank}
+use Rattle.ruled_table.specs.declared.options.Options.{Options}
+use Rattle.ruled_table.specs.declared.order.RankedRow.{RankedRow}
 
 -- ---- signs at the ends of texts
 
@@ -242,3 +253,354 @@ shown_columns words header n asked_for left_out made is count are out =
 
 -- digits that are no number
 pub ruleset numbers_lost = (number-lost)
+
+-- ---- numbers
+
+-- no byte passes the test
+none_passes : (p : ℕ → Bool) (bytes : List ℕ) → list_all (λ b. not (p b)) bytes ≡ true → position p bytes ≡ None
+none_passes p bytes h = let all = whole bytes h in grind (arith, nat_tests, all)
+  where
+    whole : (bytes : List ℕ) → list_all (λ b. not (p b)) bytes ≡ true → prefix_len (λ b. not (p b)) bytes ≡ length bytes
+    whole [] h = refl
+    whole (b ∷ bytes) h = let parts = and_parts (not (p b)) (list_all (λ b. not (p b)) bytes) h in let rest = whole bytes parts.1 in rw parts.0 (omega (arith, rest))
+
+-- what holds of each digit
+digits_pass : (q : ℕ → Bool) → ((b : ℕ) → is_digit b ≡ true → q b ≡ true) → (bytes : List ℕ) → list_all is_digit bytes ≡ true → list_all q bytes ≡ true
+digits_pass q each [] h = refl
+digits_pass q each (b ∷ bytes) h = let parts = and_parts _ _ h in and_from _ _ (each b parts.0) (digits_pass q each bytes parts.1)
+
+last_is_digit : (b : ℕ) (bytes : List ℕ) → list_all is_digit (b ∷ bytes) ≡ true → is_digit (get_or (b ∷ bytes) (length bytes) 0) ≡ true
+last_is_digit b [] h = (and_parts _ _ h).0
+last_is_digit b (d ∷ bytes) h = last_is_digit d bytes (and_parts _ _ h).1
+
+no_sign : (b : ℕ) (bytes : List ℕ) → is_digit b ≡ true → unsigned (b ∷ bytes) ≡ b ∷ bytes
+no_sign b bytes digit =
+    let plus : nat_eq b 43 ≡ false = grind (arith, nat_tests, digit) in
+    let minus : nat_eq b 45 ≡ false = grind (arith, nat_tests, digit) in
+    let other : nat_eq b 226 ≡ false = grind (arith, nat_tests, digit) in
+    rw (plus, minus, other) refl
+
+never : (a : Bool) → (a && false) ≡ false
+never true = refl
+never false = refl
+
+no_percent : (b : ℕ) (bytes : List ℕ) → list_all is_digit (b ∷ bytes) ≡ true → strip_last 37 (b ∷ bytes) ≡ b ∷ bytes
+no_percent b bytes digits =
+    let last = last_is_digit b bytes digits in
+    let not_percent : (get_or (b ∷ bytes) (length bytes) 0 == 37) ≡ false = grind (arith, nat_tests, last) in
+    let end : length (b ∷ bytes) - 1 ≡ length bytes = omega arith in
+    rw (end, not_percent, never (nat_lt 0 (length (b ∷ bytes)))) refl
+
+no_mark : (b : ℕ) → is_digit b ≡ true → not ((b == 101) || (b == 69)) ≡ true
+no_mark b digit = grind (arith, nat_tests, digit)
+
+no_point : (b : ℕ) → is_digit b ≡ true → not (b == 46) ≡ true
+no_point b digit = grind (arith, nat_tests, digit)
+
+figure : (b : ℕ) → is_digit b ≡ true → is_figure b ≡ true
+figure b digit = rw digit refl
+
+pub digits-number : (text : List ℕ) → are_digits text ≡ true → is_number text ≡ true
+unfolding is_number
+digits-number [] h = h
+digits-number (b ∷ bytes) h =
+    let digits : list_all is_digit (b ∷ bytes) ≡ true = (and_parts (not (length (b ∷ bytes) == 0)) (list_all is_digit (b ∷ bytes)) h).1 in
+    let parts = and_parts (is_digit b) (list_all is_digit bytes) digits in
+    let unmarked = none_passes (λ b. (b == 101) || (b == 69)) (b ∷ bytes) (digits_pass (λ b. not ((b == 101) || (b == 69))) no_mark (b ∷ bytes) digits) in
+    let pointless = none_passes (λ b. b == 46) (b ∷ bytes) (digits_pass (λ b. not (b == 46)) no_point (b ∷ bytes) digits) in
+    rw (no_sign b bytes parts.0, no_percent b bytes digits, unmarked, pointless) (and_from (is_digit b) (list_all is_figure bytes) parts.0 (digits_pass is_figure figure bytes parts.1))
+
+-- ---- digits around a point
+
+-- the digits in front
+front_digits : (text : List ℕ) → list_all is_digit (take (prefix_len (λ b. not (not (is_digit b))) text) text) ≡ true
+front_digits [] = refl
+front_digits (b ∷ bytes) =
+    let n : ℕ = prefix_len (λ (b : ℕ). not (not (is_digit b))) bytes in
+    let more : 1 + n ≡ suc n = omega arith in
+    elim (cases_Bool (is_digit b)) [
+      | inl digit ↦ rw (digit, more) (and_from (is_digit b) (list_all is_digit (take n bytes)) digit (front_digits bytes))
+      | inr other ↦ rw other refl
+    ]
+
+pub digits-end : (text : List ℕ) (end : ℕ) → position (λ b. not (is_digit b)) text ≡ Some end → list_all is_digit (take end text) ≡ true
+digits-end text end is =
+    let n : ℕ = prefix_len (λ (b : ℕ). not (not (is_digit b))) text in
+    elim (cases_Bool (nat_lt n (length text))) [
+      | inl below ↦ subst (λ (k : ℕ). list_all is_digit (take k text) ≡ true) (same_Some n end (sym (ap (λ (b : Bool). cond b (Some n) None) below) ∙ is)) (front_digits text)
+      | inr above ↦ absurd (none-some end (sym (ap (λ (b : Bool). cond b (Some n) None) above) ∙ is))
+    ]
+
+pub digits-all : (text : List ℕ) → position (λ b. not (is_digit b)) text ≡ None → list_all is_digit text ≡ true
+digits-all text none =
+    let n : ℕ = prefix_len (λ (b : ℕ). not (not (is_digit b))) text in
+    elim (cases_Bool (nat_lt n (length text))) [
+      | inl below ↦ absurd (none-some n (sym none ∙ ap (λ (b : Bool). cond b (Some n) None) below))
+      | inr above ↦
+          let all : length text ≤ n = grind (arith, nat_tests, above) in
+          ap (list_all is_digit) (sym (take_all n text all)) ∙ front_digits text
+    ]
+
+-- a text has digits up to a place, a point there, and digits behind it
+record Parted (text : List ℕ) (end : ℕ) : Type 0 where
+  within : end < length text
+  front : list_all is_digit (take end text) ≡ true
+  point : get_or text end 0 ≡ 46
+  back : are_digits (drop (end + 1) text) ≡ true
+
+behind_first : (b : ℕ) (bytes : List ℕ) (end : ℕ) → Parted (b ∷ bytes) (suc end) → Parted bytes end
+behind_first b bytes end parted =
+    let next : suc end + 1 ≡ suc (end + 1) = omega arith in
+    record {
+      within = omega (arith, parted.within);
+      front = (and_parts (is_digit b) (list_all is_digit (take end bytes)) parted.front).1;
+      point = parted.point;
+      back = rw next at parted.back;
+    }
+
+-- what holds of each digit and of a point
+parted_pass : (q : ℕ → Bool) → ((b : ℕ) → is_digit b ≡ true → q b ≡ true) → q 46 ≡ true → (text : List ℕ) (end : ℕ) → Parted text end → list_all q text ≡ true
+parted_pass q each point [] end parted = refl
+parted_pass q each point (b ∷ bytes) zero parted =
+    and_from (q b) (list_all q bytes) (ap q parted.point ∙ point) (digits_pass q each bytes (and_parts _ _ parted.back).1)
+parted_pass q each point (b ∷ bytes) (suc end) parted =
+    and_from (q b) (list_all q bytes) (each b (and_parts _ _ parted.front).0) (parted_pass q each point bytes end (behind_first b bytes end parted))
+
+some_digits : (bytes : List ℕ) → are_digits bytes ≡ true → 0 < length bytes
+some_digits [] h = absurd (true≢false (sym h))
+some_digits (b ∷ bytes) h = omega arith
+
+ends_digit : (text : List ℕ) (end last : ℕ) → Parted text end → last + 1 ≡ length text → is_digit (get_or text last 0) ≡ true
+ends_digit [] end last parted is = absurd (omega (arith, is))
+ends_digit (b ∷ []) zero last parted is = absurd (omega (arith, some_digits [] parted.back))
+ends_digit (b ∷ d ∷ bytes) zero zero parted is = absurd (omega (arith, is))
+ends_digit (b ∷ d ∷ bytes) zero (suc last) parted is =
+    let same : last ≡ length bytes = omega (arith, is) in
+    rw same (last_is_digit d bytes (and_parts _ _ parted.back).1)
+ends_digit (b ∷ bytes) (suc end) zero parted is = absurd (omega (arith, is, parted.within))
+ends_digit (b ∷ bytes) (suc end) (suc last) parted is = ends_digit bytes end last (behind_first b bytes end parted) (omega (arith, is))
+
+before_point : (text : List ℕ) (end : ℕ) → Parted text end → prefix_len (λ b. not (b == 46)) text ≡ end
+before_point [] end parted = absurd (omega (arith, parted.within))
+before_point (b ∷ bytes) zero parted = rw parted.point refl
+before_point (b ∷ bytes) (suc end) parted =
+    let other : not (b == 46) ≡ true = no_point b (and_parts _ _ parted.front).0 in
+    rw other (omega (arith, before_point bytes end (behind_first b bytes end parted)))
+
+or_right : (a b : Bool) → b ≡ true → (a || b) ≡ true
+or_right true b h = refl
+or_right false b h = h
+
+parted-number : (text : List ℕ) (end : ℕ) → 0 < end → Parted text end → is_number text ≡ true
+unfolding is_number
+parted-number [] end some parted = absurd (omega (arith, parted.within))
+parted-number (b ∷ bytes) zero some parted = absurd (omega (arith, some))
+parted-number (b ∷ bytes) (suc end) some parted =
+    let digits = and_parts (is_digit b) (list_all is_digit (take end bytes)) parted.front in
+    let last = ends_digit (b ∷ bytes) (suc end) (length bytes) parted (omega arith) in
+    let not_percent : (get_or (b ∷ bytes) (length bytes) 0 == 37) ≡ false = grind (arith, nat_tests, last) in
+    let final : length (b ∷ bytes) - 1 ≡ length bytes = omega arith in
+    let whole : strip_last 37 (b ∷ bytes) ≡ b ∷ bytes = rw (final, not_percent, never (nat_lt 0 (length (b ∷ bytes)))) refl in
+    let unmarked = none_passes (λ b. (b == 101) || (b == 69)) (b ∷ bytes) (parted_pass (λ b. not ((b == 101) || (b == 69))) no_mark refl (b ∷ bytes) (suc end) parted) in
+    let before = before_point (b ∷ bytes) (suc end) parted in
+    let point : position (λ b. b == 46) (b ∷ bytes) ≡ Some (suc end) = grind (arith, nat_tests, before, parted.within) in
+    rw (no_sign b bytes digits.0, whole, unmarked, point)
+    (and_from ((suc end == 0) || (is_digit b && list_all is_figure (take end bytes))) (are_digits (drop (suc end + 1) (b ∷ bytes)))
+    (or_right (suc end == 0) (is_digit b && list_all is_figure (take end bytes)) (and_from (is_digit b) (list_all is_figure (take end bytes)) digits.0 (digits_pass is_figure figure (take end bytes) digits.1)))
+    parted.back)
+
+pub decimal-number : (text : List ℕ) (end : ℕ) → 0 < end → end < length text → list_all is_digit (take end text) ≡ true → get_or text end 0 ≡ 46 → are_digits (drop (end + 1) text) ≡ true
+    → is_number text ≡ true
+decimal-number text end some within front point back = parted-number text end some (record { within = within; front = front; point = point; back = back })
+
+-- ---- sorted lists
+
+-- ---- the order of ranks
+
+number-total : IsTotalOrder number_order
+number-total = then_total (then_total (on_total (λ (r : Ranked). r.sign) int_cmp_total) (on_total (λ (r : Ranked). r.power) int_cmp_total)) (on_total (λ (r : Ranked). r.digits) nat_list_cmp_total)
+
+pub order-total : (is_descending : Bool) → IsTotalOrder (order_of is_descending)
+order-total true = then_total (on_total (λ (r : Ranked). r.is_last) bool_cmp_total) (back_total number-total)
+order-total false = then_total (on_total (λ (r : Ranked). r.is_last) bool_cmp_total) number-total
+
+-- ---- lists in order
+
+module _ {X : Type 0} (lt : X → X → Bool) (order : IsStrictWeakOrder lt) where
+  -- no element is less
+  abbrev Least : X → List X → Type 0
+  Least x [] = Unit {0}
+  Least x (y ∷ ys) = (lt y x ≡ false) × Least x ys
+
+  -- none is less than one in front of it
+  abbrev Rising : List X → Type 0
+  Rising [] = Unit {0}
+  Rising (x ∷ xs) = Least x xs × Rising xs
+
+  abbrev Far : List X → Type 0
+  Far xs = (i j : ℕ) (d : X) → i ≤ j → j < length xs → lt (get_or xs j d) (get_or xs i d) ≡ false
+
+  least-from : (x : X) (ys : List X) → ((j : ℕ) (d : X) → j < length ys → lt (get_or ys j d) x ≡ false) → Least x ys
+  least-from x [] each = tt
+  least-from x (y ∷ ys) each = (each zero y (omega arith), least-from x ys (λ j d within. each (suc j) d (omega (arith, within))))
+
+  rising-from : (xs : List X) → Far xs → Rising xs
+  rising-from [] far = tt
+  rising-from (x ∷ xs) far = (
+    least-from x xs (λ j d within. far zero (suc j) d (omega arith) (omega (arith, within))),
+    rising-from xs (λ i j d below within. far (suc i) (suc j) d (omega (arith, below)) (omega (arith, within))),
+  )
+
+  itself : (x : X) → lt x x ≡ false
+  itself x = by (lt x x) refl
+    where
+      by : (b : Bool) → lt x x ≡ b → lt x x ≡ false
+      by true is = order.one_way x x is
+      by false is = is
+
+  least-with : (z x : X) (ys : List X) → Least z ys → lt x z ≡ false → Least z (with_element lt x ys)
+  least-with z x [] least above = (above, tt)
+  least-with z x (y ∷ ys) least above =
+      elim (lt y x) as (λ b. Least z (cond b (y ∷ with_element lt x ys) (x ∷ y ∷ ys))) [ true ↦ (least.0, least-with z x ys least.1 above) | false ↦ (above, least) ]
+
+  least-on : (x y : X) (ys : List X) → Least y ys → lt y x ≡ false → Least x ys
+  least-on x y [] least above = tt
+  least-on x y (z ∷ ys) least above = (order.chain z y x least.0 above, least-on x y ys least.1 above)
+
+  rising-with : (x : X) (ys : List X) → Rising ys → Rising (with_element lt x ys)
+  rising-with x [] rising = (tt, tt)
+  rising-with x (y ∷ ys) rising =
+      (elim (lt y x) as (λ b. lt y x ≡ b → Rising (cond b (y ∷ with_element lt x ys) (x ∷ y ∷ ys))) [
+        | true ↦ λ is. (least-with y x ys rising.0 (order.one_way y x is), rising-with x ys rising.1)
+        | false ↦ λ is. ((is, least-on x y ys rising.0 is), rising)
+      ]) refl
+
+  sorted-rises : (xs : List X) → Rising (sorted_by lt xs)
+  sorted-rises [] = tt
+  sorted-rises (x ∷ xs) = rising-with x (sorted_by lt xs) (sorted-rises xs)
+
+  -- ---- elements that tie
+
+  abbrev like : X → List X → List X
+  like z xs = filter (ties lt z) xs
+
+  -- of two that tie with one, none is less
+  apart : (x y z : X) (a b : Bool) → lt y x ≡ true → ties lt z x ≡ a → ties lt z y ≡ b → (us : List X)
+      → cond b (y ∷ cond a (x ∷ us) us) (cond a (x ∷ us) us) ≡ cond a (x ∷ cond b (y ∷ us) us) (cond b (y ∷ us) us)
+  apart x y z true true less with_x with_y us =
+      let z_x = parts (lt z x) (lt x z) with_x in
+      let z_y = parts (lt z y) (lt y z) with_y in
+      absurd (true≢false (sym less ∙ order.chain y z x z_y.1 z_x.0))
+    where
+      parts : (p q : Bool) → (not p && not q) ≡ true → (p ≡ false) × (q ≡ false)
+      parts true q is = absurd (true≢false (sym is))
+      parts false true is = absurd (true≢false (sym is))
+      parts false false is = (refl, refl)
+  apart x y z true false less with_x with_y us = refl
+  apart x y z false true less with_x with_y us = refl
+  apart x y z false false less with_x with_y us = refl
+
+  like-with : (z x : X) (ys : List X) → like z (with_element lt x ys) ≡ like z (x ∷ ys)
+  like-with z x [] = refl
+  like-with z x (y ∷ ys) =
+      (elim (lt y x) as (λ b. lt y x ≡ b → like z (cond b (y ∷ with_element lt x ys) (x ∷ y ∷ ys)) ≡ like z (x ∷ y ∷ ys)) [
+        | true ↦ λ is.
+            ap (λ (us : List X). cond (ties lt z y) (y ∷ us) us) (like-with z x ys)
+            ∙ apart x y z (ties lt z x) (ties lt z y) is refl refl (like z ys)
+        | false ↦ λ is. refl
+      ]) refl
+
+  like-sorted : (z : X) (xs : List X) → like z (sorted_by lt xs) ≡ like z xs
+  like-sorted z [] = refl
+  like-sorted z (x ∷ xs) = like-with z x (sorted_by lt xs) ∙ ap (λ (us : List X). cond (ties lt z x) (x ∷ us) us) (like-sorted z xs)
+
+  -- ---- one list alone is in order, and has ties as they were
+
+  like-itself : (x : X) → ties lt x x ≡ true
+  like-itself x = ap (λ (b : Bool). not b && not b) (itself x)
+
+  -- nothing above an element ties with one below it
+  like-none : (z u : X) (us : List X) → Least u us → lt z u ≡ true → like z us ≡ []
+  like-none z u [] least less = refl
+  like-none z u (w ∷ us) least less = ap (λ (b : Bool). cond b (w ∷ like z us) (like z us)) (other (lt z w) refl) ∙ like-none z u us least.1 less
+    where
+      other : (b : Bool) → lt z w ≡ b → (not (lt z w) && not (lt w z)) ≡ false
+      other true is = ap (λ (b : Bool). not b && not (lt w z)) is
+      other false is = absurd (true≢false (sym less ∙ order.chain z w u is least.0))
+
+  like-first : (x : X) (xs : List X) → like x (x ∷ xs) ≡ x ∷ like x xs
+  like-first x xs = ap (λ (b : Bool). cond b (x ∷ like x xs) (like x xs)) (like-itself x)
+
+  -- the first of one list isn't below the first of another one
+  not-below : (u v : X) (us vs : List X) → Rising (u ∷ us) → ((z : X) → like z (u ∷ us) ≡ like z (v ∷ vs)) → lt v u ≡ false
+  not-below u v us vs rising same = by (lt v u) refl
+    where
+      by : (b : Bool) → lt v u ≡ b → lt v u ≡ false
+      by true is =
+          let none : like v (u ∷ us) ≡ [] = like-none v u (u ∷ us) (itself u, rising.0) is in
+          let one : [] ≡ v ∷ like v vs = sym none ∙ same v ∙ like-first v vs in
+          cc
+      by false is = is
+
+  -- without the element that both have first
+  others-same : (z u : X) (us vs : List X) (b : Bool) → cond b (u ∷ like z us) (like z us) ≡ cond b (u ∷ like z vs) (like z vs) → like z us ≡ like z vs
+  others-same z u us vs true same = cc
+  others-same z u us vs false same = same
+
+  one-list : (us vs : List X) → Rising us → Rising vs → ((z : X) → like z us ≡ like z vs) → us ≡ vs
+  one-list [] [] rises climbs same = refl
+  one-list [] (v ∷ vs) rises climbs same = let one : [] ≡ v ∷ like v vs = same v ∙ like-first v vs in cc
+  one-list (u ∷ us) [] rises climbs same = let one : u ∷ like u us ≡ [] = sym (like-first u us) ∙ same u in cc
+  one-list (u ∷ us) (v ∷ vs) rises climbs same =
+      let above : lt v u ≡ false = not-below u v us vs rises same in
+      let below : lt u v ≡ false = not-below v u vs us climbs (λ z. sym (same z)) in
+      let tied : ties lt u v ≡ true = ap₂ (λ (a b : Bool). not a && not b) below above in
+      let firsts : u ∷ like u us ≡ v ∷ like u vs = sym (like-first u us) ∙ same u ∙ ap (λ (b : Bool). cond b (v ∷ like u vs) (like u vs)) tied in
+      let first : u ≡ v = cc in
+      let rest : us ≡ vs = one-list us vs rises.1 climbs.1 (λ z. others-same z u us vs (ties lt z u)
+      (same z ∙ ap (λ (w : X). cond (ties lt z w) (w ∷ like z vs) (like z vs)) (sym first))) in
+      ap₂ (λ (x : X) (xs : List X). x ∷ xs) first rest
+
+  -- what a stable sort leaves
+  pub sorted-alone : (xs ys : List X) → IsSortedBy lt ys → IsStableBy lt xs ys → ys ≡ sorted_by lt xs
+  sorted-alone xs ys sorted stable =
+      one-list ys (sorted_by lt xs) (rising-from ys (sorted_far lt order ys sorted)) (sorted-rises xs) (λ z. stable z ∙ sym (like-sorted z xs))
+
+-- ---- what is made of their elements
+
+module _ {X Y : Type 0} (f : X → Y) (lt : Y → Y → Bool) where
+  with-made : (x : X) (ys : List X) → map f (with_element (λ a b. lt (f a) (f b)) x ys) ≡ with_element lt (f x) (map f ys)
+  with-made x [] = refl
+  with-made x (y ∷ ys) =
+      elim (lt (f y) (f x)) as (λ b. map f (cond b (y ∷ with_element (λ a b. lt (f a) (f b)) x ys) (x ∷ y ∷ ys)) ≡ cond b (f y ∷ with_element lt (f x) (map f ys)) (f x ∷ f y ∷ map f ys)) [
+        | true ↦ ap (λ (us : List Y). f y ∷ us) (with-made x ys)
+        | false ↦ refl
+      ]
+
+  pub sorted-made : (xs : List X) → map f (sorted_by (λ a b. lt (f a) (f b)) xs) ≡ sorted_by lt (map f xs)
+  sorted-made [] = refl
+  sorted-made (x ∷ xs) = with-made x (sorted_by (λ a b. lt (f a) (f b)) xs) ∙ ap (with_element lt (f x)) (sorted-made xs)
+
+-- ---- rows
+
+module _ (options : Options) (is_descending numeric : Bool) (column : ℕ) where
+  rows-alone : (rows : List (List Text)) → map (λ (pair : Ranked × List Text). pair.1) (map (with_rank options numeric column) rows) ≡ rows
+  rows-alone [] = refl
+  rows-alone (row ∷ rows) = ap (λ (others : List (List Text)). row ∷ others) (rows-alone rows)
+
+  fields-of : (rows : List RankedRow) → map fields_of (map (λ (row : RankedRow). row.fields) rows) ≡ map (λ (pair : Ranked × List Text). pair.1) (map row_in rows)
+  fields-of [] = refl
+  fields-of (row ∷ rows) = ap (λ (others : List (List Text)). fields_of row.fields ∷ others) (fields-of rows)
+
+  -- rows sorted by their ranks are sorted by their texts
+  pub ranked-sorted : (rows : List (List Text)) (ranked sorted : List RankedRow) → map row_in ranked ≡ map (with_rank options numeric column) rows
+      → sorted ≡ sorted_by (λ a b. is_lt (order_of is_descending (rank_in a.rank) (rank_in b.rank))) ranked
+      → map fields_of (map (λ (row : RankedRow). row.fields) sorted) ≡ sorted_by (is_before options is_descending numeric column) rows
+  ranked-sorted rows ranked sorted are is =
+      let before : Ranked × List Text → Ranked × List Text → Bool = λ a b. is_lt (order_of is_descending a.0 b.0) in
+      ap (λ (xs : List RankedRow). map fields_of (map (λ (row : RankedRow). row.fields) xs)) is
+      ∙ fields-of (sorted_by (λ a b. before (row_in a) (row_in b)) ranked)
+      ∙ ap (map (λ (pair : Ranked × List Text). pair.1)) (
+      sorted-made row_in before ranked ∙ ap (sorted_by before) are
+      ∙ sym (sorted-made (with_rank options numeric column) before rows))
+      ∙ rows-alone (sorted_by (λ a b. before (with_rank options numeric column a) (with_rank options numeric column b)) rows)

@@ -1,25 +1,29 @@
 -- What a table looks like whose first rows are known, and the texts of the others within its columns.
-use Rattle.std.specs.Prelude.{◌≡◌, ◌≢◌, false, ℕ, ◌+◌, ◌-◌, nat_le, List, [], ◌∷◌, length, slice_index_or, Option, Some, None, Result, Ok, Err, if◌then◌else◌}
+use Rattle.std.specs.Prelude.{◌≡◌, ◌≢◌, true, false, ℕ, ◌+◌, ◌-◌, ◌^◌, ◌<◌, ◌≤◌, min, nat_le, List, [], ◌∷◌, map, length, slice_index, slice_index_or, All, Option, Some, None, Result, Ok, Err, if◌then◌else◌}
 use Rattle.std.specs.Option.{option_or}
-use Rattle.std.specs.Str.{trim_end}
+use Rattle.std.specs.Str.{IsUtf8, trim_end}
 use Rattle.pg_layout.specs.Records.{columns_of}
-use Rattle.pg_layout.specs.Text.{Text, text_width_of}
+use Rattle.pg_layout.specs.Text.{Text, greatest, text_width_of}
 use Rattle.pg_layout.specs.declared.dimension.ConstantDimension.{ConstantDimension}
 use Rattle.pg_layout.specs.declared.position.Position.{Position}
 use Rattle.pg_config.specs.Config.{Config, get_formatting}
 use Rattle.pg_fit.specs.Cutting.{cut_text}
-use Rattle.pg_fit.specs.Wrapping.{wrapped}
+use Rattle.pg_fit.specs.Wrapping.{least_width, wrapped}
+use Rattle.pg_fit.specs.declared.wrapping.Breaking.{Breaking}
 use Rattle.pg_table.specs.Fitted.{fit_fault, fitted_table, fitted_texts}
 use Rattle.pg_table.specs.Natural.{natural_table, paddings}
 use Rattle.pg_table.specs.Natural as natural
+use Rattle.pg_table.specs.Overflowing.{limit_of}
 use Rattle.pg_table.specs.Printing.{sizes_fault}
 use Rattle.pg_table.specs.declared.fault.TableFault.{TableFault}
 use Rattle.pg_table.specs.declared.fault.TableFault.TheVariants as table
 use Rattle.pg_table.specs.declared.overflow.Overflow.{Overflow}
 use Rattle.pg_table.specs.declared.overflow.Overflow.TheVariants.{Wrap, Cut}
 use Rattle.pg_table.specs.declared.sizes.Axis.TheVariants.{Columns, Rows}
-use Rattle.ruled_table.specs.Bounds.{are_told, width_of, kept_limits}
-use Rattle.ruled_table.specs.Columns.{ellipsis}
+use Rattle.ruled_table.specs.Bounds.{are_counted, are_told, width_of, kept_limits, widest_text}
+use Rattle.ruled_table.specs.Columns.{ellipsis, texts_of}
+use Rattle.ruled_table.specs.declared.bounds.Bounds.{Bounds}
+use Rattle.ruled_table.specs.declared.lent_rows.LentRows.{LentRows}
 use Rattle.ruled_table.specs.Numbers.{is_number}
 use Rattle.ruled_table.specs.Tables.{with_line}
 use Rattle.ruled_table.specs.Shown.{line_in, sided_config}
@@ -67,6 +71,50 @@ fitted_fault options config fields rows =
 
 abbrev pub widths_fault : Options → Config → List (List Text) → List (List Text) → Option TableFault
 widths_fault options config fields rows = if are_told options.bounds then fitted_fault options config fields rows else natural_fault config rows
+
+-- ---- where texts are wrapped
+
+-- the widths of the table of these rows within limits, and why they aren't told
+abbrev pub widths_within : Bounds → List ℕ → Config → List (List Text) → ℕ → ℕ
+widths_within bounds limits config rows = (fitted_table bounds.overflow (width_of bounds.width) limits config rows (columns_of rows) (λ place. None)).width
+
+abbrev pub fault_within : Bounds → List ℕ → Config → List (List Text) → Option TableFault
+fault_within bounds limits config rows =
+    option_or (fit_fault config rows (columns_of rows)) (sizes_fault config (fitted_texts bounds.overflow (width_of bounds.width) limits config rows (columns_of rows)) (columns_of rows))
+
+-- the width of a column, lowered to its limit
+abbrev pub lowered : List ℕ → List ℕ → ℕ → ℕ
+lowered widths limits column = min (slice_index widths column) (limit_of limits column)
+
+-- natural widths of columns of texts in memory, with a space at each side
+pub record AreSpaced (records : LentRows) (widths : List ℕ) : Type 0 where
+  pub some : 0 < length widths
+  pub columns : length widths ≡ columns_of (texts_of records)
+  pub each : (k : ℕ) → k < length widths → slice_index widths k ≡ widest_text (texts_of records) k + 2
+  pub counted : (k : ℕ) → k < length widths → widest_text (texts_of records) k + 2 < 2 ^ 64
+  pub short : are_counted records.records.now ≡ true
+
+-- each character of a text in memory has room
+pub record HasRoom (breaking : Breaking) (room : ℕ) (text : Text) : Type 0 where
+  pub characters : min (text_width_of text) (least_width breaking text) ≤ room
+  pub encoded : IsUtf8 text
+  pub counted : length text < 2 ^ 63
+
+-- how many terminal columns the widest text of a column takes if its texts are wrapped
+abbrev pub widest_wrapped : Breaking → ℕ → List (List Text) → ℕ → ℕ
+widest_wrapped breaking room rows column = greatest (map (λ row. text_width_of (wrapped breaking room (slice_index_or row column []))) rows)
+
+-- the width of a column whose texts are wrapped within a limit, where each of their characters has room
+pub record IsWrapped (breaking : Breaking) (limit : ℕ) (rows : List (List Text)) (column width : ℕ) : Type 0 where
+  pub spaces : 2 ≤ limit
+  pub is : width ≡ widest_wrapped breaking (limit - 2) rows column + 2
+  pub within : width ≤ limit
+  pub room : All (λ row. HasRoom breaking (limit - 2) (slice_index_or row column [])) rows
+
+-- that of a column of a natural width, which is wrapped where it is wider than its limit
+pub record IsLowered (breaking : Breaking) (limit : ℕ) (rows : List (List Text)) (column natural width : ℕ) : Type 0 where
+  pub kept : natural ≤ limit → width ≡ natural
+  pub wrapped : limit < natural → IsWrapped breaking limit rows column width
 
 -- ---- texts within their columns
 

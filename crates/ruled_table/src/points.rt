@@ -40,6 +40,7 @@ fn whole_len(text: &str) -> usize
 }
 
 // How many characters follow it.
+#[tactic(auto, using(std::proofs::lemmas::Str::chars_from_encodes))]
 fn rest_len(text: &str) -> usize
     ensures { result ≡ spec.rest_len text.now }
 {

@@ -31,9 +31,9 @@ pub(crate) fn widest_text(rows: LentRows<'_>, column: usize) -> usize
     width
 }
 
-// How many terminal columns a text takes. Most texts have letters alone, whose width is found by one walk.
+/// How many terminal columns a text takes. Most texts have letters alone, whose width is found by one walk.
 #[tactic(auto, using(crate::proofs::LentTexts::letters_found))]
-fn text_width(text: &str) -> usize
+pub(crate) fn text_width(text: &str) -> usize
     ensures { result ≡ text_width_of text.now }
 {
     match letters_width(text) {

@@ -20,6 +20,7 @@ use std::alloc::{AllocError, Global};
 use std::borrow::CowStr;
 
 // Whether a text is shown as it is: it is sent raw, or has no control characters.
+#[tactic(auto, using(pg_fit::proofs::LawsOfControls::visible_texts_stay))]
 fn is_seen(is_raw: bool, text: &str) -> bool
     ensures { result ≡ true → seen_text is_raw text.now ≡ text.now }
 {

@@ -45,58 +45,6 @@ pub struct TableRows<'a> {
     is_over: bool,
 }
 
-// The text that is shown of a field, within so many columns. Most fields are shown as they are, so that is tested first.
-fn cell_shown<'a>(
-    alloc: Global,
-    options: &Options,
-    room: usize,
-    field: &'a str,
-) -> Result<CowStr<'a>, AllocError>
-    ensures { IfOk result (λ cell. cow_str_bytes cell ≡ spec.text_within options.now.bounds.overflow room (shown_text options.now field.now)) }
-{
-    if get_text_width(field) <= room && stands(options, field) {
-        return Ok(CowStr::Borrowed(field));
-    }
-    let text = shown_text(alloc, options, field)?;
-    lent_within(alloc, options.bounds.overflow, room, text)
-}
-
-// Adds the text that is shown of a field within its column, the next one.
-fn push_shown<'a>(
-    alloc: Global,
-    options: &Options,
-    widths: &ConstantDimension,
-    field: &'a str,
-    cells: &mut Vec<CowStr<'a>>,
-) -> Result<(), AllocError>
-    ensures { OnOk result (map cow_str_bytes cells.new.items ≡ map cow_str_bytes cells.old.items
-        ++ spec.text_within options.now.bounds.overflow (spec.room_of (spec.widths_in widths.now) (length cells.old.items)) (shown_text options.now field.now) ∷ []) }
-{
-    let room = room_of(widths, cells.len());
-    let cell = cell_shown(alloc, options, room, field)?;
-    Ok(cells.push(cell)?)
-}
-
-// The texts that are shown of a row, within their columns: lent where they are unchanged.
-fn cells_shown<'a>(
-    alloc: Global,
-    options: &Options,
-    places: &[Option<usize>],
-    widths: &ConstantDimension,
-    fields: &'a TextRow,
-) -> Result<Vec<CowStr<'a>>, AllocError>
-    ensures { IfOk result (λ cells. map cow_str_bytes cells.items ≡ spec.row_within options.now.bounds.overflow (spec.widths_in widths.now) (shown_row options.now places.now (fields_of fields.now))) }
-{
-    let mut cells = Vec::with_capacity(alloc, places.len())?;
-    for place in places {
-        push_shown(alloc, options, widths, drawn_at(fields, *place), &mut cells)?;
-    }
-    Ok(cells)
-}
-
-// The most columns of a table of which rows that are shown unchanged take no memory.
-const FEW: usize = 16;
-
 // The text that is shown of a record in a column, unless it is for Markdown: if it is a line, shown unchanged, and has
 // room there. Of a plain record only the room is tested, and of any other one whether the text has letters alone.
 fn lent_cell<'a>(
@@ -119,6 +67,74 @@ fn lent_cell<'a>(
     let width = letters_width(text)?;
     if width <= room { Some(text) } else { None }
 }
+
+// The text that is shown of a record in a column, within so many columns. Most are shown as they are, so that is tested
+// first.
+fn cell_shown<'a>(
+    alloc: Global,
+    options: &Options,
+    is_plain: bool,
+    room: usize,
+    fields: &'a TextRow,
+    place: Option<usize>,
+) -> Result<CowStr<'a>, AllocError>
+    requires unchanged { is_plain ≡ true → map (shown_text options.now) (fields_of fields.now) ≡ fields_of fields.now }
+    requires plain { is_plain ≡ true → list_all (list_all is_plain_byte) (fields_of fields.now) ≡ true }
+    ensures { IfOk result (λ cell. cow_str_bytes cell ≡ spec.text_within options.now.bounds.overflow room (shown_text options.now (drawn_at (fields_of fields.now) place))) }
+{
+    if !options.is_markdown {
+        if let Some(cell) = lent_cell(options, is_plain, room, fields, place) {
+            return Ok(CowStr::Borrowed(cell));
+        }
+    }
+    let field = drawn_at(fields, place);
+    if !is_plain && get_text_width(field) <= room && stands(options, field) {
+        return Ok(CowStr::Borrowed(field));
+    }
+    let text = shown_text(alloc, options, field)?;
+    lent_within(alloc, options.bounds.overflow, room, text)
+}
+
+// Adds the text that is shown of a record in a column within its width, the next one.
+fn push_shown<'a>(
+    alloc: Global,
+    options: &Options,
+    is_plain: bool,
+    widths: &ConstantDimension,
+    fields: &'a TextRow,
+    place: Option<usize>,
+    cells: &mut Vec<CowStr<'a>>,
+) -> Result<(), AllocError>
+    requires unchanged { is_plain ≡ true → map (shown_text options.now) (fields_of fields.now) ≡ fields_of fields.now }
+    requires plain { is_plain ≡ true → list_all (list_all is_plain_byte) (fields_of fields.now) ≡ true }
+    ensures { OnOk result (map cow_str_bytes cells.new.items ≡ map cow_str_bytes cells.old.items
+        ++ spec.text_within options.now.bounds.overflow (spec.room_of (spec.widths_in widths.now) (length cells.old.items)) (shown_text options.now (drawn_at (fields_of fields.now) place)) ∷ []) }
+{
+    let room = room_of(widths, cells.len());
+    let cell = cell_shown(alloc, options, is_plain, room, fields, place)?;
+    Ok(cells.push(cell)?)
+}
+
+// The texts that are shown of a row, within their columns: lent where they are unchanged.
+fn cells_shown<'a>(
+    alloc: Global,
+    options: &Options,
+    places: &[Option<usize>],
+    widths: &ConstantDimension,
+    fields: &'a TextRow,
+) -> Result<Vec<CowStr<'a>>, AllocError>
+    ensures { IfOk result (λ cells. map cow_str_bytes cells.items ≡ spec.row_within options.now.bounds.overflow (spec.widths_in widths.now) (shown_row options.now places.now (fields_of fields.now))) }
+{
+    let is_plain = is_plain_record(options, fields);
+    let mut cells = Vec::with_capacity(alloc, places.len())?;
+    for place in places {
+        push_shown(alloc, options, is_plain, widths, fields, *place, &mut cells)?;
+    }
+    Ok(cells)
+}
+
+// The most columns of a table of which rows that are shown unchanged take no memory.
+const FEW: usize = 16;
 
 // Writes the texts that are shown of a row to the first of these cells, and says whether each is a line that is shown
 // unchanged and has room.

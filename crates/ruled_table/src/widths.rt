@@ -1,19 +1,24 @@
 //! The look of a table whose first rows are known, and the texts of the others within its columns.
 
 ghost use Rattle.std.specs.Cow.{cow_str_bytes};
-ghost use Rattle.std.specs.Prelude.{◌≡◌, ◌<◌, ◌+◌, ◌^◌, ℕ, length, slice_index, string_bytes, true, IfOk};
+ghost use Rattle.std.specs.Prelude.{◌≡◌, ◌<◌, ◌≤◌, ◌+◌, ◌-◌, ◌^◌, ℕ, max, length, slice_index, slice_index_or, string_bytes, sum_by, true, None, IfOk, IfSome};
+ghost use Rattle.std.specs.List.{range_with_len};
+ghost use Rattle.pg_table.specs.Overflowing.{beside_columns, limit_of};
+ghost use Rattle.pg_layout.specs.Text.{text_width_of};
+ghost use Rattle.pg_fit.specs.Wrapping.{wrapped};
 ghost use Rattle.ruled_table.specs.Tables.{Tells, totals_of};
 ghost use Rattle.ruled_table.specs.Columns.{texts_of};
 ghost use Rattle.ruled_table.specs.Widths as spec;
 
-use crate::lent_rows::LentRows;
+use crate::bounds::Bounds;
+use crate::lent_rows::{LentRows, text_in};
 use crate::numbers::is_number;
 use crate::options::Options;
-use crate::ranges::{kept_limits, widest_texts};
+use crate::ranges::{kept_limits, text_width, widest_texts};
 use crate::table::{line_in, set_line_below, sided_config};
 use crate::view::{ViewFault, fault_in};
 use pg_config::SpannedConfig;
-use pg_fit::{cut, wrap};
+use pg_fit::{Breaking, cut, least_width, wrap};
 use pg_layout::{ConstantDimension, ExactRecords, NoColors, Records, get_text_width};
 use pg_table::{NaturalTable, Overflow, TableFault};
 use std::alloc::{AllocError, Global};
@@ -48,8 +53,39 @@ fn add_spaces(widths: &mut [usize]) -> bool
     true
 }
 
-// The natural sizes of a table of these records: the widths of its columns, for which each text is measured once. Rows
-// have no heights here, since each is as high as its highest cell when it is drawn.
+// The greatest width of a column.
+fn limit_at(limits: &[usize], column: usize) -> usize
+    ensures { result ≡ limit_of limits.now column }
+{
+    limits.get(column).copied().unwrap_or(usize::MAX)
+}
+
+// How wide so many columns may be together in a line.
+fn room_in(config: &SpannedConfig, total: usize, columns: usize) -> usize
+    requires { columns < usize.MAX }
+    ensures { result ≡ total - beside_columns config.now columns }
+{
+    let margin = config.get_margin();
+    total
+        .saturating_sub(config.count_vertical(columns))
+        .saturating_sub(margin.left.size)
+        .saturating_sub(margin.right.size)
+}
+
+// The natural widths of the columns of these records, or `None` if they have none or one exceeds `usize::MAX`. Each text
+// is measured once.
+fn spaced_widths(alloc: Global, records: LentRows<'_>) -> Result<Option<Vec<usize>>, AllocError>
+    ensures { IfOk result (λ found. IfSome found (λ widths. spec.AreSpaced records.entry widths.items)) }
+{
+    let mut widths = widest_texts(alloc, records)?;
+    if records.count_columns() > 0 && add_spaces(&mut widths) {
+        return Ok(Some(widths));
+    }
+    Ok(None)
+}
+
+// The natural sizes of a table of these records: the widths of its columns. Rows have no heights here, since each is as
+// high as its highest cell when it is drawn.
 fn natural_sizes(
     alloc: Global,
     config: &SpannedConfig,
@@ -59,14 +95,135 @@ fn natural_sizes(
     ensures widths { IfOk result (λ sizes. sizes.0.items ≡ spec.natural_widths config.now (texts_of records.entry)) }
     ensures fault { spec.TellsTable (spec.natural_fault config.now (texts_of records.entry)) result }
 {
-    let mut widths = widest_texts(alloc, records)?;
-    if records.count_columns() > 0 && add_spaces(&mut widths) {
-        return Ok(ConstantDimension(widths, Vec::new(alloc)));
+    let found = spaced_widths(alloc, records)?;
+    match found {
+        Some(widths) => Ok(ConstantDimension(widths, Vec::new(alloc))),
+        None => NaturalTable::new(records, config, &NoColors).natural_dimension(alloc),
     }
-    NaturalTable::new(records, config, &NoColors).natural_dimension(alloc)
 }
 
-// The sizes of a table of these records, which show these fields, within the bounds that are set.
+// The greater of a width and that of a text that is wrapped in so many columns, or `None` if a character has no room there.
+// A text isn't wrapped if no line of it can be wider than the width.
+fn raised_to_wrapped(
+    alloc: Global,
+    breaking: Breaking,
+    room: usize,
+    width: usize,
+    text: &str,
+) -> Result<Option<usize>, AllocError>
+    requires { width ≤ room }
+    ensures width { IfOk result (λ found. IfSome found (λ wider. wider ≡ max width (text_width_of (wrapped breaking room text.now)))) }
+    ensures room { IfOk result (λ found. IfSome found (λ wider. wider ≤ room)) }
+    ensures fits { IfOk result (λ found. IfSome found (λ wider. spec.HasRoom breaking room text.now)) }
+{
+    let own = text_width(text);
+    if own <= room {
+        return Ok(Some(own.max(width)));
+    }
+    if least_width(text, breaking) > room {
+        return Ok(None);
+    }
+    if width == room {
+        return Ok(Some(width));
+    }
+    let lines = wrap(alloc, text, room, breaking)?;
+    Ok(Some(get_text_width(&lines).max(width)))
+}
+
+// How wide a column of a natural width is within a limit: as wide, or, if that is more, as its texts are that are wrapped
+// within it, with a space at each side. It is `None` if a character has no room there.
+fn wrapped_width(
+    alloc: Global,
+    breaking: Breaking,
+    limit: usize,
+    rows: LentRows<'_>,
+    column: usize,
+    natural: usize,
+) -> Result<Option<usize>, AllocError>
+    ensures { IfOk result (λ found. IfSome found (λ width. spec.IsLowered breaking limit (texts_of rows.entry) column natural width)) }
+{
+    if natural <= limit {
+        return Ok(Some(natural));
+    }
+    if limit < 2 {
+        return Ok(None);
+    }
+    let room = limit - 2;
+    let mut width = 0;
+    for fields in rows.records {
+        let text = text_in(fields, rows.places, column);
+        let found = raised_to_wrapped(alloc, breaking, room, width, text)?;
+        match found {
+            Some(wider) => width = wider,
+            None => return Ok(None),
+        }
+    }
+    Ok(Some(width + 2))
+}
+
+// Lowers the widths of the columns that are wider than their limits to those of their texts, wrapped within these. It is
+// false if a character has no room there, or if the columns, each as wide as its limit allows, don't fit in the room.
+fn wrap_columns(
+    alloc: Global,
+    breaking: Breaking,
+    room: usize,
+    limits: &[usize],
+    rows: LentRows<'_>,
+    widths: &mut [usize],
+) -> Result<bool, AllocError>
+    ensures same { length widths.new ≡ length widths.old }
+    ensures fits { IfOk result (λ done. done ≡ true → sum_by (spec.lowered widths.old limits.now) (range_with_len 0 (length widths.old)) ≤ room) }
+    ensures lowered { IfOk result (λ done. done ≡ true
+        → (k : ℕ) → k < length widths.old → spec.IsLowered breaking (limit_of limits.now k) (texts_of rows.entry) k (slice_index widths.old k) (slice_index widths.new k)) }
+{
+    let mut left = room;
+    for column in 0..widths.len() {
+        let limit = limit_at(limits, column);
+        let natural = widths[column];
+        let lowered = natural.min(limit);
+        if lowered > left {
+            return Ok(false);
+        }
+        left -= lowered;
+        let found = wrapped_width(alloc, breaking, limit, rows, column, natural)?;
+        match found {
+            Some(width) => widths[column] = width,
+            None => return Ok(false),
+        }
+    }
+    Ok(true)
+}
+
+// The widths of a table of these records within a total width and limits, if its texts are wrapped and each character of
+// them has room there.
+fn wrapped_widths(
+    alloc: Global,
+    bounds: &Bounds,
+    config: &SpannedConfig,
+    limits: &[usize],
+    records: LentRows<'_>,
+) -> Result<Option<Vec<usize>>, AllocError>
+    requires { spec.HasSpaces config.now }
+    ensures widths { IfOk result (λ found. IfSome found (λ widths. (λ column. slice_index_or widths.items column 0) ≡ spec.widths_within bounds.now limits.now config.now (texts_of records.entry))) }
+    ensures fault { IfOk result (λ found. IfSome found (λ widths. spec.fault_within bounds.now limits.now config.now (texts_of records.entry) ≡ None)) }
+{
+    let Overflow::Wrap(breaking) = bounds.overflow else {
+        return Ok(None);
+    };
+    let found = spaced_widths(alloc, records)?;
+    let Some(mut widths) = found else {
+        return Ok(None);
+    };
+    let room = room_in(config, bounds.width(), widths.len());
+    let are_wrapped = wrap_columns(alloc, breaking, room, limits, records, &mut widths)?;
+    if !are_wrapped {
+        return Ok(None);
+    }
+    Ok(Some(widths))
+}
+
+// The sizes of a table of these records, which show these fields, within the bounds that are set. Where each column has
+// room for its characters, its texts are wrapped only until one is as wide as it may be.
 fn fitted_sizes(
     alloc: Global,
     options: &Options,
@@ -74,11 +231,16 @@ fn fitted_sizes(
     fields: LentRows<'_>,
     records: LentRows<'_>,
 ) -> Result<ConstantDimension, TableFault>
+    requires { spec.HasSpaces config.now }
     ensures fault { spec.TellsTable (spec.fitted_fault options.now config.now (texts_of fields.entry) (texts_of records.entry)) result }
     ensures widths { IfOk result (λ sizes. spec.widths_in sizes ≡ spec.fitted_widths options.now config.now (texts_of fields.entry) (texts_of records.entry)) }
 {
     let bounds = &options.bounds;
     let limits = kept_limits(alloc, options, config, fields, records)?;
+    let found = wrapped_widths(alloc, bounds, config, &limits, records)?;
+    if let Some(widths) = found {
+        return Ok(ConstantDimension(widths, Vec::new(alloc)));
+    }
     let table = NaturalTable::new(records, config, &NoColors);
     let fitted = table.within_limits(alloc, bounds.width(), &limits, bounds.overflow)?;
     fitted.natural_dimension(alloc)

@@ -3,7 +3,7 @@ use Rattle.std.specs.List.{list_all}
 use Rattle.std.proofs.lemmas.Bool.{and_from}
 use Rattle.std.proofs.lemmas.List.{length-drop, take_all}
 use Rattle.ruled_table.specs.Numbers.{are_digits, is_digit}
-use Rattle.ruled_table.proofs.DigitsAlone.{decimal-number, digits-all, digits-end, digits-number}
+use Rattle.ruled_table.proofs.WordsOfColumns.{decimal-number, digits-all, digits-end, digits-number}
 use Rattle.ruled_table.proofs.numbers.is_simple.Goals as goal
 
 pub returns-in-None : goal.returns-in-None

@@ -7,7 +7,7 @@ use Rattle.ruled_table.specs.Order.{in_order, is_before, sorted_by}
 use Rattle.pg_layout.specs.Text.{Text}
 use Rattle.ruled_table.specs.Sides.{is_numeric, is_numeric_text}
 use Rattle.ruled_table.specs.declared.order.RankedRow.{RankedRow}
-use Rattle.ruled_table.proofs.SortedRows.{ranked-sorted}
+use Rattle.ruled_table.proofs.WordsOfColumns.{ranked-sorted}
 use Rattle.ruled_table.proofs.order.in_order.Goals as goal
 
 pub returns : goal.returns

@@ -5,7 +5,7 @@ use Rattle.std.proofs.lemmas.Fn.{always_returns_same}
 use Rattle.std.proofs.lemmas.List.MinMax.{ranks_by}
 use Rattle.ruled_table.specs.Order.{order_of, rank_in}
 use Rattle.ruled_table.specs.declared.order.RankedRow.{RankedRow}
-use Rattle.ruled_table.proofs.SortedRows.{order-total, sorted-alone}
+use Rattle.ruled_table.proofs.WordsOfColumns.{order-total, sorted-alone}
 use Rattle.ruled_table.proofs.order.sort_ranked.Goals as goal
 
 pub returns : goal.returns

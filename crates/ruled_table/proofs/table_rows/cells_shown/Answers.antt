@@ -1,4 +1,4 @@
-use Rattle.std.proofs.Common.{◌≡◌, ◌∙◌, ◌∷◌, ◌++◌, [], ℕ, List, None, Option, length, map, slice_index_or, ap, arith, rules}
+use Rattle.std.proofs.Common.{◌≡◌, ◌∷◌, ◌++◌, [], ℕ, List, None, Option, length, map, slice_index_or, arith, rules}
 use Rattle.std.specs.Cow.{cow_str_bytes}
 use Rattle.csv.specs.Records.{fields_of}
 use Rattle.pg_layout.specs.Text.{Text}
@@ -17,9 +17,10 @@ loop-place-preserved c =
     let i = c.loop-place.place-index in
     let made = c.loop-place.cells.items in
     let width : ℕ → ℕ = widths_in c.args.widths.now in
-    let here : c.drawn_at.result.now ≡ drawn_at fields (slice_index_or places i None) = search rules in
-    within-next cow_str_bytes overflow width (λ place. shown_text options (drawn_at fields place)) places made c.push_shown.new.cells.items i (omega arith)
-    (c.in_ok-push_shown.ensures ∙ ap (λ (text : Text). map cow_str_bytes made ++ text_within overflow (room_of width (length made)) (shown_text options text) ∷ []) here)
+    let next : map cow_str_bytes c.push_shown.new.cells.items ≡ map cow_str_bytes made ++ text_within overflow (room_of width (length made)) (shown_text options (drawn_at fields (slice_index_or places i None))) ∷ [] =
+    search (rules, c.in_ok-push_shown.ensures)
+    in
+    within-next cow_str_bytes overflow width (λ place. shown_text options (drawn_at fields place)) places made c.push_shown.new.cells.items i (omega arith) next
     c.loop-place.invariant
 
 pub returns : goal.returns

@@ -1,38 +1,19 @@
-use Rattle.std.proofs.Common.{◌≡◌, ◌∙◌, ◌<◌, ◌+◌, ◌^◌, ℕ, List, drop, length, map, slice_index, ap, arith}
-use Rattle.std.specs.List.{range_with_len}
-use Rattle.std.proofs.lemmas.List.FromFn.{get_or-map-range_with_len, length-map-range_with_len}
-use Rattle.pg_layout.specs.Records.{columns_of}
+use Rattle.std.proofs.Common.{List, arith}
 use Rattle.pg_layout.specs.Text.{Text}
-use Rattle.pg_table.proofs.ListedSizes.{seam}
 use Rattle.ruled_table.specs.Columns.{texts_of}
-use Rattle.ruled_table.specs.Bounds.{widest_text}
-use Rattle.ruled_table.proofs.Tables.{counted-texts, spaced-fault, spaced-widths}
+use Rattle.ruled_table.specs.Widths.{AreSpaced}
+use Rattle.ruled_table.proofs.Tables.{feeds-counted, spaced-fault, spaced-widths}
 use Rattle.ruled_table.proofs.widths.natural_sizes.Goals as goal
 
-pub returns-then-add_spaces-clause-widths : goal.returns-then-add_spaces-clause-widths
-returns-then-add_spaces-clause-widths c =
+pub returns-in-Some-clause-widths : goal.returns-in-Some-clause-widths
+returns-in-Some-clause-widths c =
     let texts : List (List Text) = texts_of c.args.records in
-    let columns : ℕ = columns_of texts in
-    let new : List ℕ = c.add_spaces.new.widths in
-    let are : c.deref_mut.result.now ≡ map (widest_text texts) (range_with_len 0 columns) = c.deref_mut.ensures.value ∙ c.in_ok-widths.ensures.widths in
-    let whole : length c.deref_mut.result.now ≡ columns = ap length are ∙ length-map-range_with_len (widest_text texts) 0 columns in
-    let long : length new ≡ c.in_ok-widths.widths.len = omega (arith, c.add_spaces.ensures.same, ap length c.deref_mut.ensures.value, c.deref_mut.ensures.len) in
-    let each : (k : ℕ) → k < columns → slice_index new k ≡ widest_text texts k + 2 = λ k h.
-    let inside : k < length c.deref_mut.result.now = omega (arith, h, whole) in
-    omega (arith, c.add_spaces.ensures.spaced c.if-add_spaces.true k inside, ap (λ (xs : List ℕ). slice_index xs k) are, get_or-map-range_with_len (widest_text texts) 0 columns k k 0 h (omega arith))
-    in
-    seam new (drop (length new) c.in_ok-widths.widths.items) c.in_ok-widths.widths.len long
-    ∙ spaced-widths c.args.config.now c.requires texts new (omega (arith, c.add_spaces.ensures.same, whole)) each
+    let spaced : AreSpaced c.args.records c.in-Some.widths.items = rw c.in-Some.is at c.in_ok-found.ensures in
+    spaced-widths c.args.config.now c.requires texts c.in-Some.widths.items spaced.columns (λ k h. spaced.each k (omega (arith, h, spaced.columns)))
 
-pub returns-then-add_spaces-clause-fault : goal.returns-then-add_spaces-clause-fault
-returns-then-add_spaces-clause-fault c =
+pub returns-in-Some-clause-fault : goal.returns-in-Some-clause-fault
+returns-in-Some-clause-fault c =
     let texts : List (List Text) = texts_of c.args.records in
-    let columns : ℕ = columns_of texts in
-    let are : c.deref_mut.result.now ≡ map (widest_text texts) (range_with_len 0 columns) = c.deref_mut.ensures.value ∙ c.in_ok-widths.ensures.widths in
-    let whole : length c.deref_mut.result.now ≡ columns = ap length are ∙ length-map-range_with_len (widest_text texts) 0 columns in
-    let some : 0 < columns = omega (arith, c.count_columns.ensures.value) in
-    let wide : (k : ℕ) → k < columns → widest_text texts k + 2 < 2 ^ 64 = λ k h.
-    let inside : k < length c.deref_mut.result.now = omega (arith, h, whole) in
-    omega (arith, c.add_spaces.ensures.counted c.if-add_spaces.true k inside, ap (λ (xs : List ℕ). slice_index xs k) are, get_or-map-range_with_len (widest_text texts) 0 columns k k 0 h (omega arith))
-    in
-    spaced-fault c.args.config.now c.requires texts some wide (counted-texts c.args.records.places.now c.args.records.records.now c.in_ok-widths.ensures.counted)
+    let spaced : AreSpaced c.args.records c.in-Some.widths.items = rw c.in-Some.is at c.in_ok-found.ensures in
+    spaced-fault c.args.config.now c.requires texts (omega (arith, spaced.some, spaced.columns)) (λ k h. spaced.counted k (omega (arith, h, spaced.columns)))
+    (λ r column h l. feeds-counted c.args.records.places.now c.args.records.records.now spaced.short r column)
