@@ -6,10 +6,9 @@ use Rattle.std.specs.List.{count_by, range_with_len}
 use Rattle.std.specs.Option.{option_or}
 use Rattle.pg_layout.specs.Text.{Text}
 use Rattle.ruled_table.specs.Columns.{column_fault, first_meant, places_of}
-use Rattle.ruled_table.specs.Numbers.{gap}
 use Rattle.ruled_table.specs.Order.{sorted_in}
 use Rattle.ruled_table.specs.Shown.{heads}
-use Rattle.ruled_table.specs.Sides.{body_of}
+use Rattle.ruled_table.specs.Sides.{body_of, gap}
 use Rattle.ruled_table.specs.declared.view.ViewFault.{ViewFault}
 use Rattle.ruled_table.specs.declared.view.ViewFault.TheVariants as fault
 use Rattle.ruled_table.specs.declared.options.Options.{Options}

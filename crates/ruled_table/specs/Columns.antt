@@ -8,7 +8,7 @@ use Rattle.std.specs.HashMap.{HashMap, get_by}
 use Rattle.std.specs.Borrow.{Bor}
 use Rattle.std.specs.Str.{bytes_eq}
 use Rattle.pg_layout.specs.Text.{Text}
-use Rattle.ruled_table.specs.Numbers.{are_digits}
+use Rattle.pg_table.specs.Numbers.{are_digits}
 use Rattle.ruled_table.specs.declared.view.ViewFault.{ViewFault}
 use Rattle.ruled_table.specs.declared.view.ViewFault.TheVariants.{Column}
 use Rattle.csv.specs.Records.{Row, fields_of}

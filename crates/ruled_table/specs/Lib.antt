@@ -2,7 +2,6 @@ pub mod Arranged
 pub mod Bounds
 pub mod Columns
 pub mod Layouts
-pub mod Numbers
 pub mod Order
 pub mod RowLines
 pub mod Shown

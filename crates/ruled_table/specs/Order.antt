@@ -6,7 +6,7 @@ use Rattle.std.specs.Cmp.Lexicographic.{slice_cmp}
 use Rattle.std.specs.Io.BufRead.{strip_last}
 use Rattle.std.specs.Ordering.{bool_cmp, int_cmp, is_lt, nat_cmp, ordering_then}
 use Rattle.std.specs.declared.cmp.Ordering.{Ordering}
-use Rattle.ruled_table.specs.Numbers.{is_digit, is_number, unsigned}
+use Rattle.pg_table.specs.Numbers.{is_digit, is_number, unsigned}
 use Rattle.pg_layout.specs.Text.{Text}
 use Rattle.ruled_table.specs.Sides.{body_of, is_missing, is_numeric}
 use Rattle.ruled_table.specs.declared.options.Options.{Options}

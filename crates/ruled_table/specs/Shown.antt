@@ -13,7 +13,7 @@ use Rattle.pg_config.specs.Config.{Config, default_config}
 use Rattle.pg_config.specs.Settings.{with_setting}
 use Rattle.pg_fit.specs.Controls.{visible_text}
 use Rattle.ruled_table.specs.Columns.{drawn_at}
-use Rattle.ruled_table.specs.Numbers.{is_number}
+use Rattle.pg_table.specs.Numbers.{is_number}
 use Rattle.ruled_table.specs.Order.{has_value, is_negative}
 use Rattle.ruled_table.specs.Sides.{is_missing, sided}
 use Rattle.ruled_table.specs.declared.colors.TextColors.{TextColors}

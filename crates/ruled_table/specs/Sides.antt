@@ -11,7 +11,7 @@ use Rattle.pg_layout.specs.declared.position.Entity.TheVariants.{Column}
 use Rattle.pg_config.specs.Config.{Config}
 use Rattle.pg_config.specs.Settings.{Settings, with_setting}
 use Rattle.ruled_table.specs.Columns.{told_of}
-use Rattle.ruled_table.specs.Numbers.{gap, is_blank, is_number}
+use Rattle.pg_table.specs.Numbers.{is_number, is_number_or_blank}
 use Rattle.ruled_table.specs.declared.options.Options.{Options}
 use Rattle.ruled_table.specs.declared.options.Side.{Side}
 use Rattle.ruled_table.specs.declared.options.Side.TheVariants.{To, Point}
@@ -27,9 +27,13 @@ body_of has_header rows = if has_header then drop 1 rows else rows
 abbrev pub is_missing : Options → Text → Bool
 is_missing options text = list_any (λ word. bytes_eq text (string_bytes word)) options.missing.items
 
+-- `⋮`, in place of the texts of rows that are left out
+abbrev pub gap : List ℕ
+gap = 226 ∷ 139 ∷ 174 ∷ []
+
 -- a number, blank, `⋮`, or one of those
 abbrev pub is_numeric_text : Options → Text → Bool
-is_numeric_text options text = (is_blank text || is_number text) || (bytes_eq text gap || is_missing options text)
+is_numeric_text options text = is_number_or_blank text || (bytes_eq text gap || is_missing options text)
 
 -- each text of the column is
 abbrev pub is_numeric : Options → List (List Text) → ℕ → Bool

@@ -24,7 +24,7 @@ use Rattle.ruled_table.specs.Bounds.{are_counted, are_told, width_of, kept_limit
 use Rattle.ruled_table.specs.Columns.{ellipsis, texts_of}
 use Rattle.ruled_table.specs.declared.bounds.Bounds.{Bounds}
 use Rattle.ruled_table.specs.declared.lent_rows.LentRows.{LentRows}
-use Rattle.ruled_table.specs.Numbers.{is_number}
+use Rattle.pg_table.specs.Numbers.{is_number}
 use Rattle.ruled_table.specs.Tables.{with_line}
 use Rattle.ruled_table.specs.Shown.{line_in, sided_config}
 use Rattle.ruled_table.specs.declared.options.Options.{Options}

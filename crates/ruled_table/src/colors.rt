@@ -8,10 +8,11 @@ ghost use Rattle.ruled_table.specs.Shown as spec;
 
 use crate::columns::drawn_at;
 use crate::layout::Layout;
-use crate::numbers::{has_value, is_negative, is_number};
 use crate::options::Options;
+use crate::order::{has_value, is_negative};
 use crate::sides::is_missing;
 use pg_layout::{ANSIFmt, Colors, Position};
+use pg_table::numbers::is_number;
 use ruled_row::TextRow;
 
 /// A colour of a text.

@@ -10,8 +10,8 @@ ghost use Rattle.ruled_table.specs.Columns as spec;
 ghost use Rattle.ruled_table.specs.Tables.{Tells};
 ghost use Rattle.ruled_table.specs.declared.view.ViewFault.TheVariants.{Column};
 
-use crate::numbers::are_digits;
 use crate::view::ViewFault;
+use pg_table::numbers::are_digits;
 use ruled_row::TextRow;
 use std::alloc::{AllocError, Global};
 use std::collections::{HashMap, HashSet};

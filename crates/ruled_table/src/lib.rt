@@ -9,7 +9,6 @@ mod columns;
 mod escapes;
 mod layout;
 mod lent_rows;
-mod numbers;
 mod omission;
 mod options;
 mod order;

@@ -1,19 +1,128 @@
-//! The order of rows.
+//! The values of numbers, and the order of rows.
 
-ghost use Rattle.std.specs.Prelude.{◌≡◌, ◌+ℤ◌, ◌-ℤ◌, ◌<ℤ◌, ◌^◌, ◌<◌, ◌≤◌, ◌++◌, ◌∷◌, [], IfOk, OnOk, length, map, neg_ℤ, pos, slice_index_or, true};
-ghost use Rattle.std.specs.List.{list_all};
+ghost use Rattle.std.specs.Prelude.{◌≡◌, ◌+ℤ◌, ◌-ℤ◌, ◌<ℤ◌, ◌^◌, ◌==◌, ◌<◌, ◌≤◌, ◌++◌, ◌∷◌, [], IfOk, OnOk, length, map, neg_ℤ, pos, position, slice_index_or, true};
+ghost use Rattle.std.specs.List.{list_all, suffix_len};
 ghost use Rattle.std.specs.Ordering.{is_lt};
 ghost use Rattle.csv.specs.Records.{fields_of};
 ghost use Rattle.ruled_table.specs.Sides.{is_numeric_text};
 ghost use Rattle.ruled_table.specs.Order as spec;
 
 use crate::columns::field_at;
-use crate::numbers::{digits_of, exponent, is_negative, is_number, scale, zeros_behind};
 use crate::options::Options;
 use crate::sides::{is_missing, is_numeric_text};
+use pg_table::numbers::{is_number, mark_of, point_of, unsigned, without_percent};
 use ruled_row::TextRow;
 use std::alloc::{AllocError, Global};
 use std::cmp::Ordering;
+
+/// Whether a text begins with a minus.
+pub(crate) fn is_negative(text: &[u8]) -> bool
+    ensures { result ≡ spec.is_negative text.now }
+{
+    text.starts_with(b"-") || text.starts_with(&[0xe2, 0x88, 0x92])
+}
+
+// A number without its sign and its percent sign.
+fn bare(text: &[u8]) -> &[u8]
+    ensures { result.now ≡ spec.bare text.now }
+{
+    without_percent(unsigned(text))
+}
+
+// What a number has before an `e`.
+fn mantissa_of(text: &[u8]) -> &[u8]
+    ensures { result.now ≡ spec.mantissa text.now }
+{
+    let number = bare(text);
+    match mark_of(number) {
+        Some(mark) => &number[..mark],
+        None => number,
+    }
+}
+
+/// Whether a number has a digit that isn't 0, except in a power of ten.
+pub(crate) fn has_value(text: &[u8]) -> bool
+    ensures { result ≡ spec.has_value text.now }
+{
+    mantissa_of(text)
+        .iter()
+        .any(|byte| byte.is_ascii_digit() && *byte != b'0')
+}
+
+// The number that digits write, or the greatest one.
+fn size_of(digits: &[u8]) -> u64
+    ensures { result ≡ spec.size_of digits.now }
+{
+    digits.iter().fold(0, |size: u64, digit| {
+        size.saturating_mul(10)
+            .saturating_add(u64::from(digit.saturating_sub(b'0')))
+    })
+}
+
+// A whole number with a sign.
+fn signed_size(text: &[u8]) -> i128
+    ensures value { result ≡ spec.signed_size text.now }
+    ensures above { neg_ℤ (pos (2 ^ 64)) <ℤ result }
+    ensures below { result <ℤ pos (2 ^ 64) }
+{
+    let size = i128::from(size_of(unsigned(text)));
+    if is_negative(text) { -size } else { size }
+}
+
+// The power of ten behind an `e`.
+fn exponent(text: &[u8]) -> i128
+    ensures value { result ≡ spec.exponent text.now }
+    ensures above { neg_ℤ (pos (2 ^ 64)) <ℤ result }
+    ensures below { result <ℤ pos (2 ^ 64) }
+{
+    let number = bare(text);
+    match mark_of(number) {
+        Some(mark) => signed_size(&number[mark + 1..]),
+        None => signed_size(&[]),
+    }
+}
+
+// How many digits are behind a point.
+fn fraction_len(text: &[u8]) -> usize
+    ensures { result ≡ spec.behind_point (position (λ byte. byte == 46) text.now) text.now }
+{
+    match point_of(text) {
+        Some(point) => text.len() - (point + 1),
+        None => 0,
+    }
+}
+
+// How many digits of a number are behind a point, where a percent sign is for two more.
+fn scale(text: &[u8]) -> i128
+    ensures value { result ≡ pos (spec.scale text.now) }
+    ensures below { result <ℤ pos (2 ^ 65) }
+{
+    let hundredths = if text.ends_with(b"%") { 2 } else { 0 };
+    fraction_len(mantissa_of(text)) as i128 + hundredths
+}
+
+// The digits of a text from the first one on that isn't 0.
+fn digits_of(alloc: Global, text: &[u8]) -> Result<Vec<u8>, AllocError>
+    ensures { IfOk result (λ digits. digits.items ≡ spec.digits_of text.now) }
+{
+    mantissa_of(text)
+        .iter()
+        .copied()
+        .filter(|byte| byte.is_ascii_digit())
+        .skip_while(|byte| *byte == b'0')
+        .collect(alloc)
+}
+
+// How many zeros are at the end of digits.
+fn zeros_behind(digits: &[u8]) -> usize
+    ensures { result ≡ suffix_len spec.is_zero digits.now }
+{
+    digits
+        .iter()
+        .rev()
+        .take_while(|byte| **byte == b'0')
+        .count()
+}
 
 /// Where a text is in the order of a column.
 #[derive(Drop)]

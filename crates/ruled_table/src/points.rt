@@ -8,9 +8,9 @@ ghost use Rattle.ruled_table.specs.Sides as spec;
 
 use crate::columns::{field_at, told_of};
 use crate::lent_rows::{LentRows, text_in};
-use crate::numbers::is_number;
 use crate::options::{Options, Side};
 use crate::sides::{is_numeric, lent_body};
+use pg_table::numbers::is_number;
 use ruled_row::TextRow;
 use std::alloc::{AllocError, Global};
 

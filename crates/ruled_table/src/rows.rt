@@ -11,8 +11,8 @@ ghost use Rattle.ruled_table.specs.Shown.{heads, seen_text, shown_text, limit_of
 
 use crate::columns::field_at;
 use crate::escapes::{escaped, is_plain_text};
-use crate::numbers::GAP;
 use crate::options::Options;
+use crate::sides::GAP;
 use pg_fit::{is_printable, is_visible, visible};
 use pg_layout::is_plain;
 use ruled_row::TextRow;

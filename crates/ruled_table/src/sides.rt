@@ -9,12 +9,15 @@ ghost use Rattle.ruled_table.specs.Sides as spec;
 
 use crate::columns::told_of;
 use crate::lent_rows::{LentRows, text_in};
-use crate::numbers::{GAP, is_blank, is_number};
 use crate::options::{Options, Side};
 use pg_config::SpannedConfig;
 use pg_layout::{AlignmentHorizontal, Entity, Records};
+use pg_table::numbers::is_number_or_blank;
 use ruled_row::TextRow;
 use std::alloc::AllocError;
+
+/// The text `⋮`, in place of those of rows that are left out.
+pub(crate) const GAP: &str = "⋮";
 
 /// Whether a text counts as blank, since it is listed.
 pub(crate) fn is_missing(options: &Options, text: &str) -> bool
@@ -27,7 +30,7 @@ pub(crate) fn is_missing(options: &Options, text: &str) -> bool
 pub(crate) fn is_numeric_text(options: &Options, text: &str) -> bool
     ensures { result ≡ spec.is_numeric_text options.now text.now }
 {
-    is_blank(text) || is_number(text) || text == GAP || is_missing(options, text)
+    is_number_or_blank(text) || text == GAP || is_missing(options, text)
 }
 
 // Whether the text of a row in this column is one.

@@ -12,7 +12,6 @@ ghost use Rattle.ruled_table.specs.Widths as spec;
 
 use crate::bounds::Bounds;
 use crate::lent_rows::{LentRows, text_in};
-use crate::numbers::is_number;
 use crate::options::Options;
 use crate::ranges::{kept_limits, text_width, widest_texts};
 use crate::table::{line_in, set_line_below, sided_config};
@@ -20,6 +19,7 @@ use crate::view::{ViewFault, fault_in};
 use pg_config::SpannedConfig;
 use pg_fit::{Breaking, cut, least_width, wrap};
 use pg_layout::{ConstantDimension, ExactRecords, NoColors, Records, get_text_width};
+use pg_table::numbers::is_number;
 use pg_table::{NaturalTable, Overflow, TableFault};
 use std::alloc::{AllocError, Global};
 use std::borrow::CowStr;
