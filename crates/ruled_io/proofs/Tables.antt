@@ -1,9 +1,9 @@
 -- Tables whose lines are written one row after another.
-use Rattle.std.proofs.Common.{◌≡◌, ◌∙◌, inl, inr, ◌+◌, ◌<◌, ℕ, List, [], ◌∷◌, ◌++◌, Option, Some, None, Result, Ok, Err, OnErr, OnOk, true, length, drop, get_or, refl, sym, ap, subst, append-nil, append_assoc}
-use Rattle.std.specs.Prelude.{IfErr, option_map}
+use Rattle.std.proofs.Common.{◌≡◌, ◌∙◌, inl, inr, ◌+◌, ◌<◌, ℕ, List, [], ◌∷◌, ◌++◌, Option, Some, None, Result, Ok, Err, OnErr, OnOk, false, true, length, drop, get_or, refl, sym, ap, subst, append-nil, append_assoc}
+use Rattle.std.specs.Prelude.{IfErr, is_ok, option_map}
 use Rattle.std.specs.Io.KnownBytes.{Appends, Keeps}
 use Rattle.std.specs.Result.{IsErrAnd}
-use Rattle.std.proofs.KnownBytes.{Keeps-refl}
+use Rattle.std.proofs.KnownBytes.{Appends-trans, Keeps-refl}
 use Rattle.std.proofs.lemmas.Bool.{true≢false}
 use Rattle.std.proofs.lemmas.List.{drop_more}
 use Rattle.pg_layout.specs.Text.{Text}
@@ -16,17 +16,18 @@ use Rattle.ruled_table.specs.declared.options.Options.{Options}
 use Rattle.ruled_table.specs.declared.table_rows.TableRows.{TableRows}
 use Rattle.ruled_io.specs.Faults.{IsOfRead, but_line, but_line_in, is_failure, is_of_write, of_view}
 use Rattle.ruled_io.specs.Reading.{GoesOn, Stands, sound_rows, wrong_in}
-use Rattle.ruled_io.specs.Steps.{EndsBelow, FailsIn, Grows, WritesRows}
+use Rattle.ruled_io.specs.Steps.{EndsBelow, FailsIn, Grows, Nears, StopsIn, WritesBut, WritesRows}
 use Rattle.ruled_io.specs.Stream.{lines_in}
 use Rattle.ruled_io.specs.Output.{Begins}
 use Rattle.ruled_io.specs.declared.fault.InputFault.{InputFault}
+use Rattle.ruled_io.specs.declared.fault.InputFault.TheVariants.{Totals}
 use Rattle.ruled_io.specs.declared.fault.RunFault.{RunFault}
 use Rattle.ruled_io.specs.declared.fault.RunFault.TheVariants.{Input, Read, Closed, Write}
 use Rattle.ruled_io.specs.declared.formats.Format.{Format}
 use Rattle.ruled_io.specs.declared.reader.Reader.{Reader}
 use Rattle.ruled_io.specs.declared.reader.Reading.{Reading}
 use Rattle.ruled_io.specs.declared.reader.Reading.TheVariants.{More, Done}
-use Rattle.ruled_io.proofs.Readers.{begun-on, begun-whole, grows-kept, grows-more, grows-nears, grows-none, nears-more, nears-none, nears-on, stands-begin}
+use Rattle.ruled_io.proofs.Readers.{begins-behind, begun-on, begun-whole, grows-kept, grows-more, grows-nears, grows-none, nears-more, nears-none, nears-on, stands-begin}
 use Rattle.ruled_io.proofs.Causes.{of-read}
 
 -- ---- faults
@@ -46,6 +47,15 @@ pub read-fails : (fault : RunFault) → IsOfRead fault → is_failure fault ≡ 
 read-fails fault (inl memory) = ap is_failure memory
 read-fails fault (inr read) = ap is_failure (of-read fault read).1
 
+-- what holds of a call that succeeds, or fails
+pub of-ok : {X E : Type 0} (r : Result X E) (P : Type 0) → OnOk r P → is_ok r ≡ true → P
+of-ok (Ok x) P holds is = holds
+of-ok (Err e) P holds is = absurd (cc)
+
+pub of-err : {X E : Type 0} (r : Result X E) (P : Type 0) (e : E) → OnErr r P → r ≡ Err e → P
+of-err (Ok x) P e holds is = absurd (cc)
+of-err (Err f) P e holds is = holds
+
 -- ---- items of a list
 
 pub drop-next : {X : Type 0} (xs : List X) (i : ℕ) (x : X) → i < length xs → x ≡ get_or xs i x → drop i xs ≡ x ∷ drop (i + 1) xs
@@ -54,97 +64,124 @@ drop-next {X} xs i x within is = drop_more xs i x within ∙ ap (λ (y : X). y �
 module _ (options : Options) (plan : Plan) where
   -- ---- a row
 
-  -- no room is left for it, or memory was refused
-  refused : (above : List (List Text)) (table : TableRows) (row : List Text) (old : Option (List ℕ)) (found : ViewFault) → HasAppended options plan above table → TellsRoom {X = Unit {0}} (HasNoRoom options plan above row) (Err found) → FailsIn options plan above (row ∷ []) old old (of_view found)
-  refused above table row old (view.Column name) has tells = (nears-none _ _ old old (begun-on options plan above table above (row ∷ []) has) (Keeps-refl old), λ soft. let totals = (tells refl).0 in cc)
-  refused above table row old view.Sort has tells = (nears-none _ _ old old (begun-on options plan above table above (row ∷ []) has) (Keeps-refl old), λ soft. let totals = (tells refl).0 in cc)
-  refused above table row old view.Totals has tells = (
-    nears-none _ _ old old (begun-on options plan above table above (row ∷ []) has) (Keeps-refl old),
-    λ soft. (
-      refl,
-      (
-        [],
-        [],
-        row,
-        refl,
-        subst (λ (rows : List (List Text)). HasNoRoom options plan rows row) (sym (append-nil above)) (tells refl).1,
-        subst (λ (rows : List (List Text)). Grows (begun_text options plan above) (begun_text options plan rows) old old) (sym (append-nil above)) (grows-none (begun_text options plan above) old old (Keeps-refl old)),
-      ),
-    ),
+  -- lines wait to be written, and one more row's
+  pub row-waits : (above rows : List (List Text)) (row : List Text) (old mid : Option (List ℕ)) (buf longer : List ℕ) → GrowsTo (begun_text options plan (above ++ rows)) (begun_text options plan ((above ++ rows) ++ row ∷ [])) buf longer
+      → WritesBut options plan above rows old mid buf → WritesBut options plan above (rows ++ row ∷ []) old mid longer
+  row-waits above rows row old mid buf longer grows (front, is, wrote) = (
+    front,
+    ap (λ (xs : List ℕ). begun_text options plan above ++ (front ++ xs)) grows.bytes
+        ∙ ap (λ (xs : List ℕ). begun_text options plan above ++ xs) (sym (append_assoc front buf grows.more)) ∙ sym (append_assoc (begun_text options plan above) (front ++ buf) grows.more)
+        ∙ ap (λ (xs : List ℕ). xs ++ grows.more) is ∙ grows.makes ∙ ap (begun_text options plan) (append_assoc above rows (row ∷ [])),
+    wrote,
   )
-  refused above table row old view.Memory has tells = (nears-none _ _ old old (begun-on options plan above table above (row ∷ []) has) (Keeps-refl old), λ soft. absurd (true≢false soft))
 
-  pub row-refused : {X : Type 0} (above : List (List Text)) (table : TableRows) (row : List Text) (old : Option (List ℕ)) (found : ViewFault) (result : Result X RunFault) → IsErrAnd result (λ fault. fault ≡ of_view found)
-      → HasAppended options plan above table → TellsRoom {X = Unit {0}} (HasNoRoom options plan above row) (Err found) → IfErr result (FailsIn options plan above (row ∷ []) old old)
-  row-refused above table row old found result is has tells = handed (FailsIn options plan above (row ∷ []) old old) (of_view found) result is (refused above table row old found has tells)
+  -- they are written
+  pub waits-written : (above rows : List (List Text)) (old mid new : Option (List ℕ)) (buf bytes : List ℕ) → bytes ≡ buf → WritesBut options plan above rows old mid buf → Appends mid new bytes → WritesRows options plan above rows old new
+  waits-written above rows old mid new buf bytes same (front, is, wrote) more = (front ++ buf, is, Appends-trans old mid new front buf wrote (subst (Appends mid new) same more))
 
-  -- a write failed
-  pub row-cut : {X : Type 0} (above : List (List Text)) (row : List Text) (old new : Option (List ℕ)) (bytes front buf : List ℕ) (result : Result X RunFault) → bytes ≡ buf → front ≡ []
-      → GrowsTo (begun_text options plan above) (begun_text options plan (above ++ row ∷ [])) front buf → OnErr result (Begins old new bytes) → ((fault : RunFault) → result ≡ Err fault → is_of_write fault ≡ true)
-      → IfErr result (FailsIn options plan above (row ∷ []) old new)
-  row-cut above row old new bytes front buf (Ok x) same none grows begun failed = tt
-  row-cut above row old new bytes front buf (Err fault) same none grows begun failed =
-      ((grows.more, grows.makes, subst (Begins old new) (same ∙ grows.bytes ∙ ap (λ (xs : List ℕ). xs ++ grows.more) none) begun), λ soft. absurd (true≢false (sym (write-fails fault (failed fault refl)) ∙ soft)))
+  pub waits-none : (above rows : List (List Text)) (old new : Option (List ℕ)) (empty : List ℕ) → empty ≡ [] → WritesRows options plan above rows old new → WritesBut options plan above rows old new empty
+  waits-none above rows old new empty none (front, is, wrote) = (front, ap (λ (xs : List ℕ). begun_text options plan above ++ (front ++ xs)) none ∙ ap (λ (xs : List ℕ). begun_text options plan above ++ xs) (append-nil front) ∙ is, wrote)
 
-  -- it is written
-  pub row-written : {X : Type 0} (above : List (List Text)) (row : List Text) (old new : Option (List ℕ)) (bytes front buf : List ℕ) (result : Result X RunFault) → bytes ≡ buf → front ≡ []
-      → GrowsTo (begun_text options plan above) (begun_text options plan (above ++ row ∷ [])) front buf → OnOk result (Appends old new bytes) → OnOk result (WritesRows options plan above (row ∷ []) old new)
-  row-written above row old new bytes front buf (Ok x) same none grows written = (grows.more, grows.makes, subst (Appends old new) (same ∙ grows.bytes ∙ ap (λ (xs : List ℕ). xs ++ grows.more) none) written)
-  row-written above row old new bytes front buf (Err fault) same none grows written = tt
+  -- a write of them failed
+  waits-near : (above rows : List (List Text)) (old mid new : Option (List ℕ)) (buf bytes : List ℕ) → bytes ≡ buf → WritesBut options plan above rows old mid buf → Begins mid new bytes → Nears (begun_text options plan above) (begun_text options plan (above ++ rows)) old new
+  waits-near above rows old mid new buf bytes same (front, is, wrote) begun = (front ++ buf, is, begins-behind old mid new front buf wrote (subst (Begins mid new) same begun))
+
+  pub waits-cut : {X : Type 0} (above rows : List (List Text)) (old mid new : Option (List ℕ)) (buf bytes : List ℕ) (result : Result X RunFault) → bytes ≡ buf → WritesBut options plan above rows old mid buf → OnErr result (Begins mid new bytes)
+      → ((fault : RunFault) → result ≡ Err fault → is_of_write fault ≡ true) → IfErr result (FailsIn options plan above rows old new)
+  waits-cut above rows old mid new buf bytes (Ok x) same waits begun failed = tt
+  waits-cut above rows old mid new buf bytes (Err fault) same waits begun failed = (waits-near above rows old mid new buf bytes same waits begun, λ soft. absurd (true≢false (sym (write-fails fault (failed fault refl)) ∙ soft)))
+
+  -- a row more, where one couldn't be written
+  near-on : (above rows : List (List Text)) (row : List Text) (table : TableRows) (old new : Option (List ℕ)) → HasAppended options plan (above ++ rows) table
+      → Nears (begun_text options plan above) (begun_text options plan (above ++ rows)) old new → Nears (begun_text options plan above) (begun_text options plan (above ++ (rows ++ row ∷ []))) old new
+  near-on above rows row table old new has near =
+      let more = begun-on options plan (above ++ rows) table (above ++ rows) (row ∷ []) has in
+      nears-on _ (begun_text options plan (above ++ rows)) _ old new near (more.0, more.1 ∙ ap (begun_text options plan) (append_assoc above rows (row ∷ [])))
+
+  -- where it was drawn its lines wait, too
+  near-row : {X E : Type 0} (above rows : List (List Text)) (row : List Text) (table : TableRows) (old mid new : Option (List ℕ)) (buf longer bytes : List ℕ) (pushed : Result X E) → bytes ≡ longer → HasAppended options plan (above ++ rows) table
+      → OnOk pushed (GrowsTo (begun_text options plan (above ++ rows)) (begun_text options plan ((above ++ rows) ++ row ∷ [])) buf longer) → OnErr pushed (longer ≡ buf) → WritesBut options plan above rows old mid buf → Begins mid new bytes
+      → Nears (begun_text options plan above) (begun_text options plan (above ++ (rows ++ row ∷ []))) old new
+  near-row above rows row table old mid new buf longer bytes (Ok x) same has grows kept waits begun = waits-near above (rows ++ row ∷ []) old mid new longer bytes same (row-waits above rows row old mid buf longer grows waits) begun
+  near-row above rows row table old mid new buf longer bytes (Err e) same has grows kept waits begun = near-on above rows row table old new has (waits-near above rows old mid new buf bytes (same ∙ kept) waits begun)
+
+  pub row-cut : {X Y E : Type 0} (above rows : List (List Text)) (row : List Text) (table : TableRows) (old mid new : Option (List ℕ)) (buf longer bytes : List ℕ) (pushed : Result Y E) (fault : RunFault) (result : Result X RunFault)
+      → IsErrAnd result (λ found. found ≡ fault) → is_of_write fault ≡ true → bytes ≡ longer → HasAppended options plan (above ++ rows) table
+      → OnOk pushed (GrowsTo (begun_text options plan (above ++ rows)) (begun_text options plan ((above ++ rows) ++ row ∷ [])) buf longer) → OnErr pushed (longer ≡ buf) → WritesBut options plan above rows old mid buf → Begins mid new bytes
+      → IfErr result (FailsIn options plan above (rows ++ row ∷ []) old new)
+  row-cut above rows row table old mid new buf longer bytes pushed fault result is failed same has grows kept waits begun =
+      handed (FailsIn options plan above (rows ++ row ∷ []) old new) fault result is
+      (near-row above rows row table old mid new buf longer bytes pushed same has grows kept waits begun, λ soft. absurd (true≢false (sym (write-fails fault failed) ∙ soft)))
+
+  -- no room is left for it, or memory was refused
+  refused : (above rows : List (List Text)) (row : List Text) (table : TableRows) (old new : Option (List ℕ)) (found : ViewFault) → HasAppended options plan (above ++ rows) table → WritesRows options plan above rows old new
+      → TellsRoom {X = Unit {0}} (HasNoRoom options plan (above ++ rows) row) (Err found) → (is_failure (of_view found) ≡ false → (of_view found ≡ Input Totals) × StopsIn options plan above (rows ++ row ∷ []) old new)
+  refused above rows row table old new (view.Column name) has wrote tells = λ soft. let totals = (tells refl).0 in cc
+  refused above rows row table old new view.Sort has wrote tells = λ soft. let totals = (tells refl).0 in cc
+  refused above rows row table old new view.Totals has wrote tells = λ soft. (refl, (rows, [], row, refl, (tells refl).1, wrote))
+  refused above rows row table old new view.Memory has wrote tells = λ soft. absurd (true≢false soft)
+
+  pub row-refused : {X : Type 0} (above rows : List (List Text)) (row : List Text) (table : TableRows) (old new : Option (List ℕ)) (found : ViewFault) (result : Result X RunFault) → IsErrAnd result (λ fault. fault ≡ of_view found)
+      → HasAppended options plan (above ++ rows) table → WritesRows options plan above rows old new → TellsRoom {X = Unit {0}} (HasNoRoom options plan (above ++ rows) row) (Err found)
+      → IfErr result (FailsIn options plan above (rows ++ row ∷ []) old new)
+  row-refused above rows row table old new found result is has wrote tells =
+      handed (FailsIn options plan above (rows ++ row ∷ []) old new) (of_view found) result is
+      (near-on above rows row table old new has (grows-nears _ _ old new wrote), refused above rows row table old new found has wrote tells)
 
   -- ---- rows
 
-  -- of these rows some are written, and others left
-  abbrev pub Goes : List (List Text) → List (List Text) → List (List Text) → TableRows → Option (List ℕ) → Option (List ℕ) → Type 0
-  Goes above all rest table old new = (done : List (List Text)) × (all ≡ done ++ rest) × HasAppended options plan (above ++ done) table × Grows (begun_text options plan above) (begun_text options plan (above ++ done)) old new
+  -- of these rows some are done, and others left; lines wait to be written
+  abbrev pub Goes : List (List Text) → List (List Text) → List (List Text) → TableRows → Option (List ℕ) → Option (List ℕ) → List ℕ → Type 0
+  Goes above all rest table old new buf = (done : List (List Text)) × (all ≡ done ++ rest) × HasAppended options plan (above ++ done) table × WritesBut options plan above done old new buf
 
-  pub goes-begin : (above all : List (List Text)) (table : TableRows) (old : Option (List ℕ)) → HasAppended options plan above table → Goes above all all table old old
-  goes-begin above all table old has = (
+  pub goes-begin : (above all : List (List Text)) (table : TableRows) (old : Option (List ℕ)) (buf : List ℕ) → buf ≡ [] → HasAppended options plan above table → Goes above all all table old old buf
+  goes-begin above all table old buf none has = (
     [],
     refl,
     subst (λ (rows : List (List Text)). HasAppended options plan rows table) (sym (append-nil above)) has,
-    subst (λ (rows : List (List Text)). Grows (begun_text options plan above) (begun_text options plan rows) old old) (sym (append-nil above)) (grows-none (begun_text options plan above) old old (Keeps-refl old)),
+    waits-none above [] old old buf none
+        (subst (λ (rows : List (List Text)). Grows (begun_text options plan above) (begun_text options plan rows) old old) (sym (append-nil above)) (grows-none (begun_text options plan above) old old (Keeps-refl old))),
   )
 
-  pub goes-next : (above all rest : List (List Text)) (row : List Text) (table next : TableRows) (old mid new : Option (List ℕ))
+  pub goes-next : (above all rest : List (List Text)) (row : List Text) (table next : TableRows) (old mid new : Option (List ℕ)) (buf more : List ℕ)
       → ((rows : List (List Text)) → HasAppended options plan rows table → HasAppended options plan (rows ++ row ∷ []) next)
-      → ((rows : List (List Text)) → HasAppended options plan rows table → WritesRows options plan rows (row ∷ []) mid new) → Goes above all (row ∷ rest) table old mid → Goes above all rest next old new
-  goes-next above all rest row table next old mid new after written (done, is, has, grows) = (
+      → ((rows : List (List Text)) → HasAppended options plan (above ++ rows) table → WritesBut options plan above rows old mid buf → WritesBut options plan above (rows ++ row ∷ []) old new more)
+      → Goes above all (row ∷ rest) table old mid buf → Goes above all rest next old new more
+  goes-next above all rest row table next old mid new buf more after written (done, is, has, waits) = (
     done ++ row ∷ [],
     is ∙ sym (append_assoc done (row ∷ []) rest),
     subst (λ (rows : List (List Text)). HasAppended options plan rows next) (append_assoc above done (row ∷ [])) (after (above ++ done) has),
-    subst (λ (rows : List (List Text)). Grows (begun_text options plan above) (begun_text options plan rows) old new) (append_assoc above done (row ∷ []))
-        (grows-more _ (begun_text options plan (above ++ done)) _ old mid new grows (written (above ++ done) has)),
+    written done has waits,
   )
 
-  pub goes-end : (above all rest : List (List Text)) (table : TableRows) (old new : Option (List ℕ)) → rest ≡ [] → Goes above all rest table old new → HasAppended options plan (above ++ all) table × WritesRows options plan above all old new
-  goes-end above all rest table old new none (done, is, has, grows) =
+  pub goes-end : (above all rest : List (List Text)) (table : TableRows) (old new : Option (List ℕ)) (buf : List ℕ) → rest ≡ [] → Goes above all rest table old new buf
+      → HasAppended options plan (above ++ all) table × WritesBut options plan above all old new buf
+  goes-end above all rest table old new buf none (done, is, has, waits) =
       let same : done ≡ all = sym (append-nil done) ∙ ap (λ (xs : List (List Text)). done ++ xs) (sym none) ∙ sym is in (
         subst (λ (rows : List (List Text)). HasAppended options plan (above ++ rows) table) same has,
-        subst (λ (rows : List (List Text)). Grows (begun_text options plan above) (begun_text options plan (above ++ rows)) old new) same grows,
+        subst (λ (rows : List (List Text)). WritesBut options plan above rows old new buf) same waits,
       )
 
-  pub goes-fails : (above all rest : List (List Text)) (row : List Text) (table : TableRows) (old mid new : Option (List ℕ)) (fault : RunFault)
-      → ((rows : List (List Text)) → HasAppended options plan rows table → FailsIn options plan rows (row ∷ []) mid new fault) → Goes above all (row ∷ rest) table old mid → FailsIn options plan above all old new fault
-  goes-fails above all rest row table old mid new fault fails (done, is, has, grows) =
-      let (near, stops) = fails (above ++ done) has in
-      let whole : ((above ++ done) ++ row ∷ []) ++ rest ≡ above ++ all =
-      append_assoc (above ++ done) (row ∷ []) rest ∙ append_assoc above done (row ∷ rest) ∙ ap (λ (xs : List (List Text)). above ++ xs) (sym is)
+  pub goes-fails : (above all rest : List (List Text)) (row : List Text) (table : TableRows) (old mid new : Option (List ℕ)) (buf : List ℕ) (fault : RunFault)
+      → ((rows : List (List Text)) → HasAppended options plan (above ++ rows) table → WritesBut options plan above rows old mid buf → FailsIn options plan above (rows ++ row ∷ []) old new fault)
+      → Goes above all (row ∷ rest) table old mid buf → FailsIn options plan above all old new fault
+  goes-fails above all rest row table old mid new buf fault fails (done, is, has, waits) =
+      let (near, stops) = fails done has waits in
+      let whole : (above ++ (done ++ row ∷ [])) ++ rest ≡ above ++ all =
+      append_assoc above (done ++ row ∷ []) rest ∙ ap (λ (xs : List (List Text)). above ++ xs) (append_assoc done (row ∷ []) rest ∙ sym is)
       in
-      let more = begun-on options plan (above ++ done) table ((above ++ done) ++ row ∷ []) rest has in (
-        nears-on _ (begun_text options plan ((above ++ done) ++ row ∷ [])) _ old new (nears-more _ (begun_text options plan (above ++ done)) _ old mid new grows near)
-            (more.0, more.1 ∙ ap (begun_text options plan) whole),
+      let more = begun-on options plan (above ++ done) table (above ++ (done ++ row ∷ [])) rest has in (
+        nears-on _ (begun_text options plan (above ++ (done ++ row ∷ []))) _ old new near (more.0, more.1 ∙ ap (begun_text options plan) whole),
         λ soft.
             let (totals, (front, behind, other, parts, room, wrote)) = stops soft in (
               totals,
               (
-                done ++ front,
+                front,
                 behind ++ rest,
                 other,
-                is ∙ ap (λ (xs : List (List Text)). done ++ (xs ++ rest)) parts ∙ ap (λ (xs : List (List Text)). done ++ xs) (append_assoc front (other ∷ behind) rest) ∙ sym (append_assoc done front (other ∷ (behind ++ rest))),
-                subst (λ (rows : List (List Text)). HasNoRoom options plan rows other) (append_assoc above done front) room,
-                subst (λ (rows : List (List Text)). Grows (begun_text options plan above) (begun_text options plan rows) old new) (append_assoc above done front)
-                    (grows-more _ (begun_text options plan (above ++ done)) _ old mid new grows wrote),
+                is ∙ sym (append_assoc done (row ∷ []) rest) ∙ ap (λ (xs : List (List Text)). xs ++ rest) parts ∙ append_assoc front (other ∷ behind) rest,
+                room,
+                wrote,
               ),
             ),
       )

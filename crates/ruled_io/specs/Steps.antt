@@ -44,6 +44,10 @@ module _ (options : Options) (plan : Plan) (above rows : List (List Text)) (old 
   abbrev pub WritesRows : Type 0
   WritesRows = Grows (begun_text options plan above) (begun_text options plan (above ++ rows)) old new
 
+  -- but for those at the end, which wait behind the others
+  abbrev pub WritesBut : Text → Type 0
+  WritesBut waiting = (front : Text) × (begun_text options plan above ++ (front ++ waiting) ≡ begun_text options plan (above ++ rows)) × Appends old new front
+
   -- those in front of one that no room is left for
   abbrev pub StopsIn : Type 0
   StopsIn = (done behind : List (List Text)) × (row : List Text) × (rows ≡ done ++ row ∷ behind) × HasNoRoom options plan (above ++ done) row
