@@ -4,11 +4,10 @@
 
 mod arguments;
 mod choices;
-mod inputs;
 mod source;
 
 use crate::arguments::{Asked, Wanted, read_arguments};
-use crate::inputs::{Content, Waiting, content_named, content_of, log_beside};
+use crate::source::{Content, Waiting, content_named, content_of, log_beside};
 use ruled_io::{
     Decoded, Encoding, Known, Output, Pieces, Query, Quoted, Request, Selection, Source, run,
 };
