@@ -11,7 +11,7 @@ use pg_testing::report::Report;
 use std::alloc::Global;
 use std::io::{self, Write};
 
-mod case;
+pub(crate) mod case;
 mod measure;
 mod texts;
 

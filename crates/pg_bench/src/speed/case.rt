@@ -535,15 +535,29 @@ fn span_in_row(config: &mut SpannedConfig, table: &Table, row: usize) -> Result<
     let is_shifted = table.spans.is_shifted;
     let first = if is_shifted { 3 * ((row / 4) % 3) } else { 0 };
     for column in (first..table.columns).step_by(beside) {
-        let (pos, cell) = (Position::new(row, column), Entity::Cell(row, column));
-        config.set_row_span(pos, rows)?;
-        config.set_column_span(pos, columns)?;
+        span_cell(config, Position::new(row, column), rows, columns)?;
         if is_shifted {
-            config.set_alignment_horizontal(cell, AlignmentHorizontal::Center)?;
-            config.set_alignment_vertical(cell, AlignmentVertical::Center)?;
+            center_cell(config, Entity::Cell(row, column))?;
         }
     }
     Ok(())
+}
+
+/// Lets a cell span so many rows and columns.
+pub(crate) fn span_cell(
+    config: &mut SpannedConfig,
+    place: Position,
+    rows: usize,
+    columns: usize,
+) -> Result<(), AllocError> {
+    config.set_row_span(place, rows)?;
+    config.set_column_span(place, columns)
+}
+
+// The text in the middle.
+fn center_cell(config: &mut SpannedConfig, cell: Entity) -> Result<(), AllocError> {
+    config.set_alignment_horizontal(cell, AlignmentHorizontal::Center)?;
+    config.set_alignment_vertical(cell, AlignmentVertical::Center)
 }
 
 // Lets each cell of a row take one column more than those of the row above, and the last one what is left.

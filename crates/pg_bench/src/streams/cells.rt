@@ -4,6 +4,7 @@
 ghost use Rattle.std.specs.Prelude.{None, Some, MatchOption};
 
 use crate::case::CaseFault;
+use crate::speed::case::span_cell;
 use crate::streams::given::rows_of;
 use pg_config::{CompactConfig, SpannedConfig};
 use pg_grid::IterGrid;
@@ -226,23 +227,12 @@ const BLANK: [(&str, (usize, usize, usize)); 4] = [
     ("", (0, 1, 0)),
 ];
 
-// Makes a cell span two rows and as many columns.
-fn span(
-    config: &mut SpannedConfig,
-    place: Position,
-    rows: usize,
-    columns: usize,
-) -> Result<(), AllocError> {
-    config.set_row_span(place, rows)?;
-    config.set_column_span(place, columns)
-}
-
 // A table of four hundred rows and columns is full of rectangles of two rows and two columns.
 fn check_full(alloc: Global, report: &mut Report) -> Result<(), AllocError> {
     let mut config = SpannedConfig::new(alloc);
     for row in 0..200usize {
         for col in 0..200usize {
-            span(&mut config, Position::new(row * 2, col * 2), 2, 2)?;
+            span_cell(&mut config, Position::new(row * 2, col * 2), 2, 2)?;
         }
     }
     let place = Position::new(396, 396);
@@ -254,9 +244,9 @@ fn check_full(alloc: Global, report: &mut Report) -> Result<(), AllocError> {
         true,
     );
     // Its last row has two places of the rectangle below it.
-    span(&mut config, place, 3, 2)?;
+    span_cell(&mut config, place, 3, 2)?;
     report.compare(PLACE, "spans_fit", spans_fit(&config, 400, 400), false);
-    span(&mut config, place, 2, 3)?;
+    span_cell(&mut config, place, 2, 3)?;
     report.compare(PLACE, "spans_fit", spans_fit(&config, 400, 400), false);
     Ok(())
 }
