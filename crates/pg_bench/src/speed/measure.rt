@@ -81,6 +81,16 @@ fn built<P: TablePrinter + Copy>(alloc: Global, grid: P, times: usize) -> Result
     Ok(text)
 }
 
+// Appends the text of a table behind its test, or makes the test alone.
+fn checked<P: TablePrinter>(grid: P, is_printed: bool, text: &mut String) -> Result<(), CaseFault>
+    requires readable { P.is_readable grid }
+{
+    if is_printed {
+        return grid.print(text).map_err(CaseFault::from);
+    }
+    grid.fits().map_err(CaseFault::from)
+}
+
 // The text of a table, appended so many times to an empty buffer.
 fn appended<T: Append>(alloc: Global, table: &T, times: usize) -> Result<String, CaseFault> {
     let mut text = String::new(alloc);
@@ -161,26 +171,27 @@ impl KeptTable<'_> {
         set(self.alloc, self.table, &mut config)?;
         tell(self.alloc, self.table, &mut config, &mut colors)?;
         let grid = PeekableGrid::new(&self.records, &config, &self.dimension, &colors);
-        grid.print(text).map_err(CaseFault::from)
+        checked(&grid, true, text)
+    }
+
+    // Appends the table at its natural sizes.
+    fn append_natural(&self, text: &mut String) -> Result<(), CaseFault> {
+        let table = NaturalTable::new(&self.records, self.config, &NoColors);
+        table.print(self.alloc, text).map_err(CaseFault::from)
     }
 }
 
 impl Append for KeptTable<'_> {
     // By the calls that test the table each time; the test alone appends nothing.
     fn append(&self, text: &mut String) -> Result<(), CaseFault> {
-        let (records, config) = (&self.records, self.config);
         match self.grid {
-            Grid::Natural => {
-                let table = NaturalTable::new(records, config, &NoColors);
-                table.print(self.alloc, text).map_err(CaseFault::from)
-            }
+            Grid::Natural => self.append_natural(text),
             Grid::Told => self.append_told(text),
             _ => {
-                let grid = PeekableGrid::new(records, config, &self.dimension, NoColors);
-                match self.grid {
-                    Grid::Tested => grid.fits().map_err(CaseFault::from),
-                    _ => grid.print(text).map_err(CaseFault::from),
-                }
+                let is_printed = !matches!(self.grid, Grid::Tested);
+                let records = &self.records;
+                let grid = PeekableGrid::new(records, self.config, &self.dimension, NoColors);
+                checked(&grid, is_printed, text)
             }
         }
     }
@@ -301,11 +312,8 @@ impl NewRows<'_> {
             _ => {
                 let records = VecRecords::new(rows)?;
                 let grid = IterGrid::new(records, self.config, table, NoColors);
-                let grid = grid.with_memory(self.alloc);
-                match self.grid {
-                    Grid::VectorsTested => grid.fits().map_err(CaseFault::from),
-                    _ => grid.print(text).map_err(CaseFault::from),
-                }
+                let is_printed = !matches!(self.grid, Grid::VectorsTested);
+                checked(grid.with_memory(self.alloc), is_printed, text)
             }
         }
     }
