@@ -52,8 +52,7 @@ use Rattle.ruled_io.specs.declared.formats.Format.TheVariants.{Separated, Json a
 use Rattle.ruled_io.specs.declared.formats.Known.{Known}
 use Rattle.ruled_io.specs.declared.request.FurtherInput.{FurtherInput}
 use Rattle.ruled_io.specs.declared.request.Request.{Request}
-use Rattle.ruled_io.proofs.Inputs.{unmapped}
-use Rattle.ruled_io.proofs.Joined.{joined-alone}
+use Rattle.ruled_io.proofs.Inputs.{unmapped, joined-alone}
 
 -- ---- lines of JSON that are streamed, against all of them at once
 

@@ -27,7 +27,7 @@ use Rattle.ruled_io.specs.declared.request.QueryTable.{QueryTable}
 use Rattle.std.specs.Option.{option_or}
 use Rattle.ruled_io.specs.Faults.{IsOfRead, Tells, but_line_in, fault_of_database, fault_of_json, fault_of_rows, fault_of_sql, is_early, is_memory, is_of_write, is_read, of_further}
 use Rattle.ruled_io.specs.Formats.{content_of, format_in}
-use Rattle.ruled_io.specs.Output.{failure_in, fault_written, write_part, Begins}
+use Rattle.ruled_io.specs.Faults.{failure_in, fault_written, write_part, Begins}
 use Rattle.ruled_io.specs.Requests.{format_told, hides_rows, holds_database, inner_place, known_in, log_of, members_of, rows_needed, sees_database, selection_of}
 use Rattle.ruled_io.specs.Runs.{AreAsked, AreJoined, AreRows, AreRowsAs, CausedAtOnce, LacksInput, LacksInputs, LacksJoined, LacksRows, LacksRowsAs, RemarksAll, ShowsAll, remarks_on}
 use Rattle.ruled_io.specs.Steps.{Draws}
@@ -46,7 +46,7 @@ use Rattle.ruled_io.specs.declared.request.Request.{Request}
 use Rattle.ruled_io.specs.declared.request.Selection.{Selection}
 use Rattle.ruled_io.specs.declared.request.Selection.TheVariants.{Query as Select}
 use Rattle.ruled_io.specs.declared.request.Source.{Source}
-use Rattle.ruled_io.proofs.Readers.{begins-all, begins-kept}
+use Rattle.ruled_io.proofs.Fronts.{begins-all, begins-kept}
 
 -- ---- the rows of all bytes
 

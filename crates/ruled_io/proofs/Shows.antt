@@ -23,15 +23,14 @@ use Rattle.ruled_table.specs.declared.options.Options.{Options}
 use Rattle.ruled_table.specs.declared.options.Vertical.{Vertical}
 use Rattle.ruled_table.specs.declared.options.Vertical.TheVariants.{Always, IfOmitting, Never}
 use Rattle.ruled_table.specs.declared.table_rows.TableRows.{TableRows}
-use Rattle.ruled_io.specs.Faults.{is_early, is_of_write, is_read, of_view, read_part, but_line, but_line_in, is_failure}
+use Rattle.ruled_io.specs.Faults.{is_early, is_of_write, is_read, of_view, read_part, but_line, but_line_in, is_failure, Begins, TellsWrite, failure_in}
 use Rattle.ruled_io.specs.Reading.{ReportsRead, Stands, sound_rows, wrong_in}
 use Rattle.ruled_io.specs.Steps.{Draws, DrawsInMemory, EndsBelow, Nears, WritesRows, Grows, IsEnough, wrong_within}
-use Rattle.ruled_io.specs.Output.{Begins, TellsWrite, failure_in}
 use Rattle.ruled_io.specs.declared.fault.ReadFault.{ReadFault}
 use Rattle.ruled_io.specs.declared.fault.RunFault.{RunFault}
 use Rattle.ruled_io.specs.declared.fault.RunFault.TheVariants.{Input, Read, Closed, Write}
 use Rattle.ruled_table.proofs.Tables.{chosen-named as tables-named}
-use Rattle.ruled_io.proofs.Readers.{begun-none, begun-whole, begins-behind, begins-longer, begins-none, grows-more, nears-more, nears-on, Goes, goes-end, goes-on, whole-none, begins-kept}
+use Rattle.ruled_io.proofs.Fronts.{begun-none, begun-whole, begins-behind, begins-longer, begins-none, grows-more, nears-more, nears-on, Goes, goes-end, goes-on, whole-none, begins-kept, and-false}
 use Rattle.ruled_io.specs.Runs.{AreRemarks, CausedAtOnce, CausedBy, RemarksAll, RemarksBy, ShowsAll, ShowsBy}
 use Rattle.ruled_io.specs.Stream.{StreamsAll, streamed_text, Ends, first_layout, first_remarks, first_wrong, lines_in, first_plan, shown_text}
 use Rattle.ruled_io.specs.declared.program.Remarks.{Remarks}
@@ -45,8 +44,7 @@ use Rattle.ruled_io.specs.declared.fault.InputFault.{InputFault}
 use Rattle.ruled_io.specs.declared.formats.Format.{Format}
 use Rattle.ruled_io.specs.declared.reader.Reading.{Reading}
 use Rattle.ruled_io.specs.declared.reader.Reading.TheVariants.{More, Done}
-use Rattle.ruled_io.proofs.Fronts.{and-false}
-use Rattle.ruled_io.proofs.Readers.{stands-begin}
+use Rattle.ruled_io.proofs.Fronts.{stands-begin}
 
 -- ---- rows that are written when all of them are there
 

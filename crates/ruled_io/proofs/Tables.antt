@@ -14,11 +14,10 @@ use Rattle.ruled_table.specs.declared.view.ViewFault.{ViewFault}
 use Rattle.ruled_table.specs.declared.view.ViewFault.TheVariants as view
 use Rattle.ruled_table.specs.declared.options.Options.{Options}
 use Rattle.ruled_table.specs.declared.table_rows.TableRows.{TableRows}
-use Rattle.ruled_io.specs.Faults.{IsOfRead, but_line, but_line_in, is_failure, is_of_write, of_view}
+use Rattle.ruled_io.specs.Faults.{IsOfRead, but_line, but_line_in, is_failure, is_of_write, of_view, Begins}
 use Rattle.ruled_io.specs.Reading.{GoesOn, Stands, sound_rows, wrong_in}
 use Rattle.ruled_io.specs.Steps.{EndsBelow, FailsIn, Grows, Nears, StopsIn, WritesBut, WritesRows}
 use Rattle.ruled_io.specs.Stream.{lines_in}
-use Rattle.ruled_io.specs.Output.{Begins}
 use Rattle.ruled_io.specs.declared.fault.InputFault.{InputFault}
 use Rattle.ruled_io.specs.declared.fault.InputFault.TheVariants.{Totals}
 use Rattle.ruled_io.specs.declared.fault.RunFault.{RunFault}
@@ -27,7 +26,7 @@ use Rattle.ruled_io.specs.declared.formats.Format.{Format}
 use Rattle.ruled_io.specs.declared.reader.Reader.{Reader}
 use Rattle.ruled_io.specs.declared.reader.Reading.{Reading}
 use Rattle.ruled_io.specs.declared.reader.Reading.TheVariants.{More, Done}
-use Rattle.ruled_io.proofs.Readers.{begins-behind, begun-on, begun-whole, grows-kept, grows-more, grows-nears, grows-none, nears-more, nears-none, nears-on, stands-begin}
+use Rattle.ruled_io.proofs.Fronts.{begins-behind, begun-on, begun-whole, grows-kept, grows-more, grows-nears, grows-none, nears-more, nears-none, nears-on, stands-begin}
 use Rattle.ruled_io.proofs.Causes.{of-read}
 
 -- ---- faults

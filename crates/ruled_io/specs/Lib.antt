@@ -1,9 +1,7 @@
-pub mod Encodings
 pub mod Faults
 pub mod Formats
 pub mod Input
 pub mod Laws
-pub mod Output
 pub mod Reading
 pub mod Requests
 pub mod Runs

@@ -5,10 +5,9 @@ use Rattle.pg_layout.specs.Text.{Text}
 use Rattle.ruled_table.specs.Arranged.{padded_rows}
 use Rattle.ruled_table.specs.View.{table_excess, table_fault, table_text}
 use Rattle.ruled_io.specs.Input.{AreSelected, LacksAnswer, LacksQueried, LacksStored, further_fault, joined, input_fault, rows_in}
-use Rattle.ruled_io.specs.Faults.{but_line_in, fault_of_view, is_memory}
+use Rattle.ruled_io.specs.Faults.{but_line_in, fault_of_view, is_memory, Begins}
 use Rattle.ruled_io.specs.Requests.{format_told, hides_rows, holds_database, inner_place, log_of, members_of, rows_needed, selection_of}
 use Rattle.ruled_io.specs.Stream.{StopsStream, streamed_fault, streamed_remarks, streamed_text, streamed_wrong}
-use Rattle.ruled_io.specs.Output.{Begins}
 use Rattle.ruled_io.specs.declared.fault.InputFault.{InputFault}
 use Rattle.ruled_io.specs.declared.fault.InputFault.TheVariants as input
 use Rattle.ruled_io.specs.declared.fault.RunFault.{RunFault}

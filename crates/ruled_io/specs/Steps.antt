@@ -4,13 +4,12 @@ use Rattle.std.specs.Io.KnownBytes.{Appends, Keeps}
 use Rattle.pg_layout.specs.Text.{Text}
 use Rattle.ruled_table.specs.Layouts.{Plan}
 use Rattle.ruled_table.specs.RowLines.{HasNoRoom, begun_text}
-use Rattle.ruled_io.specs.Faults.{but_line, but_line_in, fault_of_view, is_early, is_failure, is_memory, is_read}
+use Rattle.ruled_io.specs.Faults.{but_line, but_line_in, fault_of_view, is_early, is_failure, is_memory, is_read, Begins}
 use Rattle.ruled_io.specs.Input.{names_columns}
 use Rattle.ruled_json.specs.Rows.{plain_rules}
 use Rattle.ruled_json.specs.Streamed.{LineRules}
 use Rattle.ruled_io.specs.Reading.{sound_rows, wrong_in}
 use Rattle.ruled_io.specs.Stream.{lines_in}
-use Rattle.ruled_io.specs.Output.{Begins}
 use Rattle.ruled_io.specs.declared.fault.InputFault.{InputFault}
 use Rattle.ruled_io.specs.declared.fault.InputFault.TheVariants.{Totals}
 use Rattle.ruled_io.specs.declared.fault.RunFault.{RunFault}

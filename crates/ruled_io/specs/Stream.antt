@@ -8,11 +8,10 @@ use Rattle.ruled_json.specs.Streamed.{LineRules}
 use Rattle.ruled_table.specs.Layouts.{colored, first_fault, layout_of, whole_text, Plan}
 use Rattle.ruled_table.specs.RowLines.{HasNoRoom, begun_text}
 use Rattle.ruled_table.specs.View.{excess_of}
-use Rattle.ruled_io.specs.Faults.{but_line, is_failure, of_view}
+use Rattle.ruled_io.specs.Faults.{but_line, is_failure, of_view, Begins}
 use Rattle.ruled_io.specs.Formats.{content_of, format_streamed}
 use Rattle.ruled_io.specs.Reading.{sound_rows, wrong_in}
 use Rattle.ruled_io.specs.Requests.{format_told, holds_database, members_of}
-use Rattle.ruled_io.specs.Output.{Begins}
 use Rattle.ruled_io.specs.declared.fault.InputFault.{InputFault}
 use Rattle.ruled_io.specs.declared.fault.InputFault.TheVariants.{Stream, Totals}
 use Rattle.ruled_io.specs.declared.fault.RunFault.{RunFault}

@@ -10,8 +10,7 @@ ghost use Rattle.ruled_table.specs.View.{blocks_fault, blocks_text, record_block
 ghost use Rattle.ruled_table.specs.Columns.{column_fault};
 ghost use Rattle.ruled_table.specs.Layouts.{layout_of, start_fault, whole_text, Plan, is_always, plan_in};
 ghost use Rattle.ruled_table.specs.View.{all_excess, all_fault, all_text, table_excess, table_fault, table_text, whole_table};
-ghost use Rattle.ruled_io.specs.Faults.{is_early, is_of_write, is_read};
-ghost use Rattle.ruled_io.specs.Output.{TellsWrite, failure_in, failure_of, write_part, Begins};
+ghost use Rattle.ruled_io.specs.Faults.{is_early, is_of_write, is_read, TellsWrite, failure_in, failure_of, write_part, Begins};
 ghost use Rattle.ruled_io.specs.Reading.{ReportsRead, read_failure};
 ghost use Rattle.ruled_io.specs.Runs.{AreJoined, CausedAtOnce, LacksInputs, RemarksAll, ShowsAll};
 ghost use Rattle.ruled_io.specs.Steps.{Draws, DrawsInMemory};

@@ -3,7 +3,7 @@
 ghost use Rattle.std.specs.Prelude.{◌≡◌, [], length, None, Some, Ok, IfOk, OnOk, option_map, if◌then◌else◌};
 ghost use Rattle.std.specs.Io.{ReadsAtMost};
 ghost use Rattle.std.specs.Io.KnownBytes.{ReadConsumes};
-ghost use Rattle.ruled_io.specs.Encodings.{ShowsFirst, decoding_of};
+ghost use Rattle.ruled_io.specs.Formats.{ShowsFirst, decoding_of};
 
 use crate::encoding::{Encoding, First, Scheme, first_in, scheme_of, shows_scheme};
 use crate::window::Window;
@@ -30,7 +30,7 @@ fn no_character() -> io::Error {
 }
 
 impl<R: Read + Drop> Decoded<R> {
-    ghost use Rattle.ruled_io.specs.Encodings.{IsOver, IsSeen, KeepsDecoding, decoding_left, items, room, text_left};
+    ghost use Rattle.ruled_io.specs.Formats.{IsOver, IsSeen, KeepsDecoding, decoding_left, items, room, text_left, IsCut};
 
     /// An input in this encoding; without one, a byte order mark of UTF-16 shows this encoding, and all else is UTF-8.
     pub fn new(input: R, encoding: Option<Encoding>) -> Decoded<R>
@@ -138,8 +138,6 @@ impl<R: Read + Drop> Decoded<R> {
 }
 
 impl<R: Read + Drop> Read for Decoded<R> {
-    ghost use Rattle.ruled_io.specs.Encodings.{IsCut, text_left};
-
     ghost remaining = { text_left R.remaining };
 
     fn read(&mut self, buf: &mut [u8]) -> io::Result<usize>

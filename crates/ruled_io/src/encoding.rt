@@ -2,7 +2,7 @@
 
 ghost use Rattle.std.specs.Prelude.{◌≡◌, ◌<◌, ◌≤◌, ◌&&◌, ◌++◌, ◌∷◌, ℕ, List, length, true, Some, None, if◌then◌else◌};
 ghost use Rattle.std.specs.Char.Utf16.{is_high_surrogate, is_low_surrogate, surrogate_pair_char};
-ghost use Rattle.ruled_io.specs.Encodings as spec;
+ghost use Rattle.ruled_io.specs.Formats as spec;
 
 use crate::formats::{is_database, shows_mark};
 

@@ -2,7 +2,7 @@
 
 ghost use Rattle.std.specs.Prelude.{◌≡◌, ◌++◌, ℕ, List, None, Some, map, IfErr, IfOk, IfSome};
 ghost use Rattle.csv.specs.Records.{fields_of};
-ghost use Rattle.ruled_io.specs.Output.{write_part};
+ghost use Rattle.ruled_io.specs.Faults.{write_part};
 ghost use Rattle.ruled_io.specs.Reading.{ReportsRead, read_failure};
 ghost use Rattle.ruled_io.specs.Requests.{rows_needed};
 ghost use Rattle.ruled_io.specs.Runs.{AreRows, LacksInput};

@@ -4,8 +4,7 @@ ghost use Rattle.std.specs.Prelude.{◌≡◌, ◌++◌, ◌∷◌, [], ℕ, Lis
 ghost use Rattle.csv.specs.Records.{fields_of};
 ghost use Rattle.ruled_table.specs.RowLines.{HasAppended};
 ghost use Rattle.ruled_table.specs.Layouts.{Plan};
-ghost use Rattle.ruled_io.specs.Faults.{but_line_in, is_read};
-ghost use Rattle.ruled_io.specs.Output.{TellsWrite, failure_of};
+ghost use Rattle.ruled_io.specs.Faults.{but_line_in, is_read, TellsWrite, failure_of};
 ghost use Rattle.ruled_io.specs.Steps.{EndsBelow, FailsIn, WritesBut, WritesRows};
 ghost use Rattle.ruled_table.specs.declared.options.Options.{Options};
 

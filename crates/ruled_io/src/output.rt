@@ -3,9 +3,8 @@
 ghost use Rattle.std.specs.Prelude.{◌≡◌, ◌≢◌, ◌≤◌, [], length, take, true, None, Some, Err, IfOk, OnErr, OnOk};
 ghost use Rattle.std.specs.IoError.{error_kind};
 ghost use Rattle.std.specs.Io.KnownBytes.{Appends, Keeps};
-ghost use Rattle.ruled_io.specs.Faults.{fault_of_write, is_of_write};
-ghost use Rattle.ruled_io.specs.Output as spec;
-ghost use Rattle.ruled_io.specs.Output.{Begins};
+ghost use Rattle.ruled_io.specs.Faults.{fault_of_write, is_of_write, Begins};
+ghost use Rattle.ruled_io.specs.Faults as spec;
 ghost use Rattle.ruled_io.specs.declared.fault.RunFault.{RunFault};
 ghost use Rattle.ruled_io.specs.declared.output.WriteFault.{WriteFault};
 

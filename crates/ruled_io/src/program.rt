@@ -3,8 +3,7 @@
 ghost use Rattle.std.specs.Prelude.{◌≡◌, true, Ok, Some, None, IfErr, IfOk, IfSome, OnOk};
 ghost use Rattle.std.specs.Io.KnownBytes.{Appends, Keeps};
 ghost use Rattle.std.specs.Result.{result_err};
-ghost use Rattle.ruled_io.specs.Faults.{is_early, is_read, read_part, status_after};
-ghost use Rattle.ruled_io.specs.Output.{TellsWrite, failure_of, fault_written, written};
+ghost use Rattle.ruled_io.specs.Faults.{is_early, is_read, read_part, status_after, TellsWrite, failure_of, fault_written, written};
 ghost use Rattle.ruled_io.specs.Reading.{ReportsRead, read_failure, left_in};
 ghost use Rattle.ruled_io.specs.Runs.{AreRemarks, Caused, Shows};
 ghost use Rattle.ruled_io.specs.declared.fault.RunFault.{RunFault};

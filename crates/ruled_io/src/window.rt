@@ -19,7 +19,7 @@ pub(crate) struct Window {
 }
 
 impl Window {
-    ghost use Rattle.ruled_io.specs.Encodings.{items, room};
+    ghost use Rattle.ruled_io.specs.Formats.{items, room};
 
     pub(crate) fn new() -> Window
         ensures { items result ≡ [] }

@@ -3,7 +3,7 @@ use Rattle.csv.specs.Records.{fields_of}
 use Rattle.pg_layout.specs.Text.{Text}
 use Rattle.ruled_table.specs.View.{HasNames}
 use Rattle.ruled_table.specs.declared.options.Options.{Options}
-use Rattle.ruled_io.specs.Output.{failure_of}
+use Rattle.ruled_io.specs.Faults.{failure_of}
 use Rattle.ruled_io.proofs.Shows.{Blocked}
 use Rattle.ruled_io.proofs.at_once.write_blocks.Given as goal
 

@@ -1,7 +1,7 @@
 use Rattle.std.proofs.Common.{[], map}
 use Rattle.csv.specs.Records.{fields_of}
 use Rattle.ruled_io.proofs.Shows.{end-begun, end-lines, lines-begun}
-use Rattle.ruled_io.proofs.Readers.{on-err}
+use Rattle.ruled_io.proofs.Fronts.{on-err}
 use Rattle.ruled_io.proofs.at_once.write_lines.Goals as goal
 
 pub returns-in_err-write_rows-clause-begun : goal.returns-in_err-write_rows-clause-begun

@@ -3,7 +3,7 @@ use Rattle.pg_layout.specs.Text.{Text}
 use Rattle.ruled_sql.specs.Filled as queries
 use Rattle.ruled_io.specs.Input.{further_table, input_fault, members_in, queried_fault, table_of, tables_of}
 use Rattle.ruled_io.proofs.Causes.{of_rows, of_table_query}
-use Rattle.ruled_io.proofs.Joined.{by-first, by-further}
+use Rattle.ruled_io.proofs.Inputs.{by-first, by-further}
 use Rattle.ruled_io.proofs.database.queried_rows.Goals as goal
 
 pub returns-in_err-rows-clause-cause : goal.returns-in_err-rows-clause-cause

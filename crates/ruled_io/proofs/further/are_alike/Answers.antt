@@ -4,7 +4,7 @@ use Rattle.std.specs.Option.{option_eq, option_map}
 use Rattle.std.proofs.lemmas.Bool.{true≢false}
 use Rattle.std.proofs.lemmas.Slice.Eq.{bytes_eq-Decides}
 use Rattle.csv.specs.Records.{field_at, fields_of}
-use Rattle.ruled_io.proofs.Joined.{alike, same-fields, unlike}
+use Rattle.ruled_io.proofs.Inputs.{alike, same-fields, unlike}
 use Rattle.ruled_io.proofs.further.are_alike.Goals as goal
 
 -- options of equal texts are equal

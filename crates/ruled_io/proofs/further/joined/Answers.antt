@@ -4,7 +4,7 @@ use Rattle.pg_layout.specs.Text.{Text}
 use Rattle.ruled_io.specs.Input.{misfit, rows_held}
 use Rattle.ruled_io.specs.Requests.{is_ragged}
 use Rattle.ruled_io.specs.Steps.{beneath}
-use Rattle.ruled_io.proofs.Joined.{joins-on, leads-on, misfit-wrong}
+use Rattle.ruled_io.proofs.Inputs.{joins-on, leads-on, misfit-wrong}
 use Rattle.ruled_io.proofs.further.joined.Goals as goal
 
 never-some : {X : Type 0} (o : Option X) → ((x : X) → o ≡ Some x → ⊥) → o ≡ None

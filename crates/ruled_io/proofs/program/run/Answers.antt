@@ -1,7 +1,6 @@
 use Rattle.std.proofs.Common.{◌≡◌, ◌∙◌, Option, IfSome, true, sym, subst, ap}
-use Rattle.ruled_io.specs.Faults.{is_read, read_part}
+use Rattle.ruled_io.specs.Faults.{is_read, read_part, fault_written}
 use Rattle.ruled_io.specs.declared.fault.RunFault.{RunFault}
-use Rattle.ruled_io.specs.Output.{fault_written}
 use Rattle.ruled_io.specs.Reading.{read_failure}
 use Rattle.ruled_io.proofs.Shows.{ending-remarked, read-noted}
 use Rattle.ruled_io.proofs.Causes.{written-err}

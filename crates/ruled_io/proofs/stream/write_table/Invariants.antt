@@ -4,7 +4,7 @@ use Rattle.pg_layout.specs.Text.{Text}
 use Rattle.ruled_json.specs.Streamed.{LineRules}
 use Rattle.ruled_table.specs.RowLines.{HasAppended}
 use Rattle.ruled_table.specs.Layouts.{Plan}
-use Rattle.ruled_io.specs.Output.{failure_of}
+use Rattle.ruled_io.specs.Faults.{failure_of}
 use Rattle.ruled_io.specs.Reading.{Stands}
 use Rattle.ruled_table.specs.declared.options.Options.{Options}
 use Rattle.ruled_io.specs.declared.formats.Format.{Format}

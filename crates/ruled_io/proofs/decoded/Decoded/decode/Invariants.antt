@@ -1,5 +1,5 @@
 use Rattle.std.proofs.Common.{◌≡◌, ◌+◌, Some, length}
-use Rattle.ruled_io.specs.Encodings.{IsSeen, decoding_left, items, room}
+use Rattle.ruled_io.specs.Formats.{IsSeen, decoding_left, items, room}
 use Rattle.ruled_io.proofs.decoded.Decoded.decode.Given as goal
 
 -- the text that is left stays the same

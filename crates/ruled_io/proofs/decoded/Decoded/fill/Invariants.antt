@@ -1,5 +1,5 @@
 use Rattle.std.proofs.Common.{◌≡◌, [], Some}
-use Rattle.ruled_io.specs.Encodings.{IsSeen, KeepsDecoding, decoding_left, items, room}
+use Rattle.ruled_io.specs.Formats.{IsSeen, KeepsDecoding, decoding_left, items, room}
 use Rattle.ruled_io.proofs.decoded.Decoded.fill.Given as goal
 
 abbrev pub invariant-loop : goal.invariant-loop

@@ -1,5 +1,5 @@
 use Rattle.std.proofs.Common.{◌≡◌, false}
-use Rattle.ruled_io.specs.Encodings.{KeepsDecoding, decoding_left}
+use Rattle.ruled_io.specs.Formats.{KeepsDecoding, decoding_left}
 use Rattle.ruled_io.proofs.decoded.Decoded.seen.Given as goal
 
 abbrev pub invariant-loop : goal.invariant-loop

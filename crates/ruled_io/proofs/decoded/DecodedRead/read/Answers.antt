@@ -1,6 +1,6 @@
 use Rattle.std.proofs.Common.{◌≡◌, List, ℕ, length, take}
 use Rattle.std.proofs.lemmas.Result.{err_from_is_err_and}
-use Rattle.ruled_io.specs.Encodings.{decoding_left, scheme_left, items, decoding_as}
+use Rattle.ruled_io.specs.Formats.{decoding_left, scheme_left, items, decoding_as}
 use Rattle.ruled_io.proofs.Fronts.{cut-kept, keeps-then, read-cuts}
 use Rattle.ruled_io.proofs.decoded.DecodedRead.read.Goals as goal
 

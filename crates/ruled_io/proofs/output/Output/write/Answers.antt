@@ -1,7 +1,7 @@
 use Rattle.std.proofs.Common.{◌≡◌, ◌-◌, ℕ, List, [], Option, length, take, drop, ◌++◌, ◌∙◌, sym, ap, subst, rules, take-append-drop, drop_of_length-le}
 use Rattle.std.proofs.lemmas.List.{take_rest}
-use Rattle.ruled_io.specs.Output.{Begins}
-use Rattle.ruled_io.proofs.Readers.{goes-begin, goes-on, goes-end, goes-stops, goes-stays, on-err}
+use Rattle.ruled_io.specs.Faults.{Begins}
+use Rattle.ruled_io.proofs.Fronts.{goes-begin, goes-on, goes-end, goes-stops, goes-stays, on-err}
 use Rattle.ruled_io.proofs.output.Output.write.Goals as goal
 
 pub loop-init : goal.loop-init

@@ -1,6 +1,6 @@
 use Rattle.std.proofs.Common.{◌≡◌, None}
-use Rattle.ruled_io.specs.Output.{failure_of}
-use Rattle.ruled_io.proofs.Readers.{Goes}
+use Rattle.ruled_io.specs.Faults.{failure_of}
+use Rattle.ruled_io.proofs.Fronts.{Goes}
 use Rattle.ruled_io.proofs.output.Output.write.Given as goal
 
 abbrev pub invariant-loop : goal.invariant-loop

@@ -1,4 +1,4 @@
-use Rattle.ruled_io.proofs.Readers.{reads-end, reads-on}
+use Rattle.ruled_io.proofs.Fronts.{reads-end, reads-on}
 use Rattle.ruled_io.proofs.pieces.Pieces.read_on.Goals as goal
 
 pub returns-clause-given : goal.returns-clause-given

@@ -5,7 +5,7 @@ use Rattle.ruled_csv.specs.Rows.{ended_rows}
 use Rattle.ruled_csv.proofs.TextFaults.{all-sound}
 use Rattle.ruled_io.specs.Reading.{AppendsRest, HasTaken}
 use Rattle.ruled_io.specs.declared.reader.Reader.{Reader}
-use Rattle.ruled_io.proofs.Readers.{rows-end}
+use Rattle.ruled_io.proofs.Fronts.{rows-end}
 use Rattle.ruled_io.proofs.reader.Reader.finish.Goals as goal
 
 pub returns-in-Ok-clause-given : goal.returns-in-Ok-clause-given

@@ -4,7 +4,7 @@ use Rattle.ruled_csv.specs.declared.fault.RowsFault.TheVariants as rows_fault
 use Rattle.ruled_json.specs.declared.fault.JsonFault.TheVariants as json_fault
 use Rattle.ruled_io.specs.Reading.{HasTaken}
 use Rattle.ruled_io.specs.declared.reader.Reader.{Reader}
-use Rattle.ruled_io.proofs.Readers.{lines-bad, rows-bad}
+use Rattle.ruled_io.proofs.Fronts.{lines-bad, rows-bad}
 use Rattle.ruled_io.proofs.reader.Reader.read.Goals as goal
 
 pub returns-in-Err-clause-given : goal.returns-in-Err-clause-given

@@ -4,7 +4,7 @@ use Rattle.ruled_json.specs.Rows.{rules_of}
 use Rattle.ruled_json.specs.Streamed.{LineRules}
 use Rattle.ruled_io.specs.Reading.{ended_rows}
 use Rattle.ruled_io.specs.declared.formats.Format.{Format}
-use Rattle.ruled_io.proofs.Readers.{front-rows, lines-begin, rows-begin}
+use Rattle.ruled_io.proofs.Fronts.{front-rows, lines-begin, rows-begin}
 use Rattle.ruled_io.proofs.reader.Reading.of_front.Goals as goal
 
 pub returns-in-Separated-clause-given : goal.returns-in-Separated-clause-given

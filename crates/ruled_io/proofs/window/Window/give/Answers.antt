@@ -1,7 +1,7 @@
 use Rattle.std.proofs.Common.{◌≡◌, length, take, refl, sym, ◌∙◌, rules, arith}
 use Rattle.std.proofs.lemmas.List.{take-append-drop, take_at, length-take}
 use borrow.Rule.Slice.PartMut.{put_mid}
-use Rattle.ruled_io.specs.Encodings.{items}
+use Rattle.ruled_io.specs.Formats.{items}
 use Rattle.ruled_io.proofs.window.Window.give.Goals as goal
 
 pub returns-clause-bytes : goal.returns-clause-bytes

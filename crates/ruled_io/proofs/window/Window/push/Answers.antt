@@ -1,6 +1,6 @@
 use Rattle.std.proofs.Common.{◌≡◌, ◌≤◌, List, ℕ, ◌++◌, encode_utf8, length, take, ap, ◌∙◌, sym, arith}
 use Rattle.std.proofs.lemmas.List.{take_all}
-use Rattle.ruled_io.specs.Encodings.{items}
+use Rattle.ruled_io.specs.Formats.{items}
 use Rattle.ruled_io.proofs.Fronts.{grown}
 use Rattle.ruled_io.proofs.window.Window.push.Goals as goal
 
