@@ -28,7 +28,6 @@
 #![tactic(auto)]
 
 mod case;
-mod words;
 
 use crate::case::Case;
 use std::io;
