@@ -9,12 +9,11 @@
 mod fault;
 mod foreign_rows;
 mod grid_calls;
-mod invoice;
 mod logs;
 mod menu;
 mod price_list;
+mod reports;
 mod rows;
-mod stock;
 mod streamed_rows;
 mod tasks;
 mod timetable;
@@ -27,7 +26,7 @@ use std::io::{BufRead, Lock};
 use std::process::ExitCode;
 
 // The programs that read no input.
-const NAMES: [&str; 18] = [
+const NAMES: [&str; 22] = [
     "price_list",
     "invoice",
     "titled",
@@ -39,6 +38,10 @@ const NAMES: [&str; 18] = [
     "shifts_page",
     "shifts_notes",
     "files",
+    "tests",
+    "sales",
+    "order",
+    "item",
     "record_blocks",
     "levels",
     "timetable",
@@ -100,17 +103,21 @@ fn text_of(alloc: Global, name: &str) -> Result<String, Fault> {
 fn table_of(alloc: Global, name: &str) -> Result<String, Fault> {
     let text = match name {
         "price_list" => price_list::prices(alloc),
-        "invoice" => invoice::invoice(alloc),
-        "titled" => stock::titled(alloc),
+        "invoice" => reports::invoice(alloc),
+        "titled" => reports::titled(alloc),
         "lunch" => menu::lunch(alloc),
         "dinner" => menu::dinner(alloc),
         "menus" => menu::menus(alloc),
-        "bill" => invoice::bill(alloc),
+        "bill" => reports::bill(alloc),
         "shifts" => timetable::shifts_list(alloc),
         "shifts_page" => timetable::shifts_page(alloc),
         "shifts_notes" => timetable::shifts_notes(alloc),
         "files" => foreign_rows::files(alloc),
-        "record_blocks" => stock::blocks(alloc),
+        "tests" => reports::tests(alloc),
+        "sales" => reports::sales(alloc),
+        "order" => reports::order(alloc),
+        "item" => reports::item(alloc),
+        "record_blocks" => reports::blocks(alloc),
         "levels" => logs::levels(alloc),
         _ => return Err(Fault::Name),
     };
