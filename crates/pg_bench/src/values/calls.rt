@@ -2,7 +2,9 @@
 
 use crate::case::CaseFault;
 use crate::values::Fact;
-use pg_layout::{AlignmentHorizontal, Color, Entity, ExactRecords, Position, Sides};
+use pg_layout::{
+    AlignmentHorizontal, Border, Borders, Color, Entity, ExactRecords, Position, Sides,
+};
 use pg_table::{Overflow, Table, TableFault};
 use pg_testing::ledger::{Outcome, Trial};
 use pg_testing::refusing::Refusing;
@@ -22,6 +24,29 @@ enum Call {
     Colors,
     /// Paddings, and every second row from row 1 on filled with red.
     Stripes,
+    /// A new panel in a modern look, and crossings round it.
+    PanelRow,
+    /// The same, a row and another panel, and crossings round both.
+    PanelRows,
+    /// Columns of numbers at the right.
+    Numbers,
+    /// A caption at the right.
+    Caption(&'static str),
+    /// A frame round the cells from one to another, in a table with these lines between its outer ones.
+    Framed(Inner, [usize; 4]),
+    /// A double line left of column 1.
+    ColumnLine,
+}
+
+/// The lines between the outer ones of a table.
+#[derive(Clone, Copy)]
+enum Inner {
+    /// Those between rows and those between columns.
+    All,
+    /// Those between rows.
+    Rows,
+    /// Those between columns.
+    Columns,
 }
 
 /// Calls that make a text of a table.
@@ -31,6 +56,8 @@ enum Export {
     Picture,
     /// The picture whose lines are so wide: a column takes what they lack, and longer texts are cut.
     Filled(usize, usize),
+    /// The picture within so many columns, whose title is at the right of the first line.
+    Titled(usize, &'static str),
     /// The picture of its columns as rows.
     Transposed,
     /// The picture, an `x` and the picture again beside each other, with so many spaces between two.
@@ -136,6 +163,95 @@ const CASES: &[Case] = &[
             | c  |\n+----+\n|\u{1b}[41m \u{1b}[49m\u{1b}[41md\u{1b}[49m\u{1b}[41m \u{1b}[49m\u{1b}[41m \u{1b}[49m|\n+----+",
     },
     Case {
+        name: "a new panel in a table without rows has one cell",
+        rows: &[],
+        call: Call::PanelRow,
+        export: Export::Picture,
+        text: "┌───┐\n│one│\n└───┘",
+    },
+    Case {
+        name: "lines round new panels follow them and so does the frame",
+        rows: &[&["a", "b"]],
+        call: Call::PanelRows,
+        export: Export::Picture,
+        text: "┌─┬─┐\n│a│b│\n├─┴─┤\n│one│\n├─┬─┤\n│c│d│\n├─┴─┤\n│two│\n└───┘",
+    },
+    Case {
+        name: "columns of numbers are at the right",
+        rows: &[
+            &["item", "price", "left"],
+            &["tea", "3.5", " "],
+            &["1 cup", "", "-7%"],
+        ],
+        call: Call::Numbers,
+        export: Export::Picture,
+        text: "+-----+-----+----+\n|item |price|left|\n+-----+-----+----+\n|tea  |  3.5|    |\n\
+            +-----+-----+----+\n|1 cup|     | -7%|\n+-----+-----+----+",
+    },
+    Case {
+        name: "a caption is over the last line",
+        rows: &[&["ab", "c"]],
+        call: Call::Caption("end"),
+        export: Export::Picture,
+        text: "+--+-+\n|ab|c|\n+-end+",
+    },
+    Case {
+        name: "a caption without characters changes nothing",
+        rows: &[&["ab", "c"]],
+        call: Call::Caption(""),
+        export: Export::Picture,
+        text: "+--+-+\n|ab|c|\n+--+-+",
+    },
+    Case {
+        name: "a title is placed by narrowed widths",
+        rows: &[&["abcdef", "g"]],
+        call: Call::Nothing,
+        export: Export::Titled(7, "T"),
+        text: "+---+T+\n|ab…|g|\n+---+-+",
+    },
+    Case {
+        name: "a frame goes on where it crosses lines and ends with the table",
+        rows: &[&["a", "b", "c"], &["d", "e", "f"]],
+        call: Call::Framed(Inner::All, [0, 1, 9, 9]),
+        export: Export::Picture,
+        text: "+-┏━━━┓\n|a┃b|c┃\n+-┃-+-┃\n|d┃e|f┃\n+-┗━━━┛",
+    },
+    Case {
+        name: "row lines that a frame adds leave column lines closed",
+        rows: &[&["a", "b", "c"], &["d", "e", "f"], &["g", "h", "i"]],
+        call: Call::Framed(Inner::Columns, [1, 1, 1, 1]),
+        export: Export::Picture,
+        text: "+-+-+-+\n|a|b|c|\n| ┏━┓ |\n|d┃e┃f|\n| ┗━┛ |\n|g|h|i|\n+-+-+-+",
+    },
+    Case {
+        name: "column lines that a frame adds leave row lines closed",
+        rows: &[&["a", "b", "c"], &["d", "e", "f"]],
+        call: Call::Framed(Inner::Rows, [0, 1, 0, 1]),
+        export: Export::Picture,
+        text: "+-┏━┓-+\n|a┃b┃c|\n+-┗━┛-+\n|d e f|\n+-----+",
+    },
+    Case {
+        name: "a frame adds no line between its rows",
+        rows: &[&["a", "b"], &["c", "d"], &["e", "f"]],
+        call: Call::Framed(Inner::Columns, [0, 0, 1, 0]),
+        export: Export::Picture,
+        text: "┏━┓-+\n┃a┃b|\n┃c┃d|\n┗━┛ |\n|e|f|\n+-+-+",
+    },
+    Case {
+        name: "a frame round no cell changes nothing",
+        rows: &[&["a"], &["b"]],
+        call: Call::Framed(Inner::All, [1, 0, 0, 0]),
+        export: Export::Picture,
+        text: "+-+\n|a|\n+-+\n|b|\n+-+",
+    },
+    Case {
+        name: "a line between two columns",
+        rows: &[&["a", "b"], &["c", "d"]],
+        call: Call::ColumnLine,
+        export: Export::Picture,
+        text: "+-╦-+\n|a║b|\n+-╬-+\n|c║d|\n+-╩-+",
+    },
+    Case {
         name: "texts are beside each other",
         rows: &[&["a"], &["b"]],
         call: Call::Nothing,
@@ -177,6 +293,21 @@ fn table_of<A: Allocator + Copy>(
     Table::new(alloc, rows)
 }
 
+// The table with two panels, and a row between them.
+fn panel_rows<A: Allocator + Copy>(
+    alloc: A,
+    table: Table<&'static str, A>,
+) -> Result<Table<&'static str, A>, TableFault> {
+    let mut table = table
+        .with_borders(Borders::modern())
+        .with_panel_row(alloc, "one")?
+        .with_span_crossings(alloc, Borders::modern())?;
+    table.push_row(vec![in alloc; "c", "d"]?)?;
+    table
+        .with_panel_row(alloc, "two")?
+        .with_span_crossings(alloc, Borders::modern())
+}
+
 // The table behind the call that changes it.
 fn changed<A: Allocator + Copy>(
     alloc: A,
@@ -197,7 +328,57 @@ fn changed<A: Allocator + Copy>(
         Call::Stripes => table
             .with_padding(Sides::spaces(1, 0))
             .with_stripes(alloc, 1, 2, Color::plain().on_red()),
+        Call::PanelRow => table
+            .with_borders(Borders::modern())
+            .with_panel_row(alloc, "one")?
+            .with_span_crossings(alloc, Borders::modern()),
+        Call::PanelRows => panel_rows(alloc, table),
+        Call::Numbers => table.with_numbers_right(),
+        Call::Caption(caption) => table.with_caption(alloc, caption, AlignmentHorizontal::Right),
+        Call::Framed(inner, [top, left, bottom, right]) => table
+            .with_borders(borders_with(inner))
+            .with_frame(
+                Position::new(top, left),
+                Position::new(bottom, right),
+                Border::full('━', '━', '┃', '┃', '┏', '┓', '┗', '┛'),
+            ),
+        Call::ColumnLine => table.with_column_line(1, Borders::extended()),
     }
+}
+
+// ASCII borders with these lines between the outer ones.
+fn borders_with(inner: Inner) -> Borders<char> {
+    let all = Borders::ascii();
+    match inner {
+        Inner::All => all,
+        Inner::Rows => Borders {
+            vertical: None,
+            top_intersection: None,
+            bottom_intersection: None,
+            intersection: None,
+            ..all
+        },
+        Inner::Columns => Borders {
+            horizontal: None,
+            left_intersection: None,
+            right_intersection: None,
+            intersection: None,
+            ..all
+        },
+    }
+}
+
+// The picture of a table within a width, with a title at the right of its first line.
+fn titled<'m>(
+    alloc: &'m Refusing<Global>,
+    mut table: Table<&'static str, &'m Refusing<Global>>,
+    width: usize,
+    title: &str,
+) -> Result<String<&'m Refusing<Global>>, TableFault> {
+    let how = Overflow::Cut("…");
+    let sizes = table.within(alloc, width, how)?.natural_dimension(alloc)?;
+    table.set_title_at(alloc, 0, title, AlignmentHorizontal::Right, &sizes)?;
+    table.within(alloc, width, how)?.to_string(alloc)
 }
 
 // The picture of a table, a text and the picture again.
@@ -221,6 +402,7 @@ fn text_of<'m>(
         Export::Filled(width, column) => table
             .filled(alloc, width, column, Overflow::Cut("…"))?
             .to_string(alloc),
+        Export::Titled(width, title) => titled(alloc, table, width, title),
         Export::Transposed => table.transposed(alloc)?.to_string(alloc),
         Export::Beside(gap) => beside(alloc, &table.to_string(alloc)?, gap),
         Export::Html => table.to_html(alloc).map_err(TableFault::from),
@@ -262,13 +444,16 @@ fn check_case(alloc: Global, case: &Case, report: &mut Report) {
     fact.holds(Refused { case, alloc }.failures().is_ok());
 }
 
-fn a_table_gives_its_texts(alloc: Global, report: &mut Report) -> Result<(), CaseFault> {
-    let mut fact = Fact::new(report, "a table gives its texts");
-    let table = Table::new(alloc, vec![in alloc; vec![in alloc; "a", "b"]?]?)?;
+fn a_table_gives_and_takes_texts(alloc: Global, report: &mut Report) -> Result<(), CaseFault> {
+    let mut fact = Fact::new(report, "a table gives and takes texts");
+    let mut table = Table::new(alloc, vec![in alloc; vec![in alloc; "a", "b"]?]?)?;
     fact.same(table.text(Position::new(0, 1)), Some("b"));
     fact.same(table.text(Position::new(0, 2)), None);
     fact.same(table.text(Position::new(1, 0)), None);
     fact.same(table.records().count_rows(), 1);
+    fact.same(table.set_text(Position::new(0, 1), "c"), Some("b"));
+    fact.same(table.set_text(Position::new(1, 0), "d"), None);
+    fact.same(table.text(Position::new(0, 1)), Some("c"));
     Ok(())
 }
 
@@ -277,5 +462,5 @@ pub(crate) fn check_calls(alloc: Global, report: &mut Report) -> Result<(), Case
     for case in CASES {
         check_case(alloc, case, report);
     }
-    a_table_gives_its_texts(alloc, report)
+    a_table_gives_and_takes_texts(alloc, report)
 }
