@@ -11,13 +11,11 @@ mod foreign_rows;
 mod grid_calls;
 mod logs;
 mod menu;
-mod price_list;
 mod reports;
 mod rows;
 mod streamed_rows;
 mod tasks;
 mod timetable;
-mod word_counts;
 
 use crate::fault::Fault;
 use std::alloc::Global;
@@ -102,7 +100,7 @@ fn text_of(alloc: Global, name: &str) -> Result<String, Fault> {
 // The text of the program of this name, one of those that make a table from rows.
 fn table_of(alloc: Global, name: &str) -> Result<String, Fault> {
     let text = match name {
-        "price_list" => price_list::prices(alloc),
+        "price_list" => reports::prices(alloc),
         "invoice" => reports::invoice(alloc),
         "titled" => reports::titled(alloc),
         "lunch" => menu::lunch(alloc),
@@ -135,7 +133,7 @@ fn show_samples(rt: &impl Print, alloc: Global) -> Result<(), Fault> {
         print_program(rt, alloc, name, 40, sample.as_bytes())?;
     }
     println!(rt; "== word_counts_of_a_wide_line")?;
-    match word_counts::print_counts(rt, alloc, rows::WIDE_LINES.as_bytes()) {
+    match logs::print_counts(rt, alloc, rows::WIDE_LINES.as_bytes()) {
         Ok(()) => Ok(()),
         Err(fault) => println!(rt; "\n{fault}").map_err(Fault::from),
     }
@@ -150,7 +148,7 @@ fn print_program<R: BufRead + Drop>(
     input: R,
 ) -> Result<(), Fault> {
     let text = match name {
-        "word_counts" => return word_counts::print_counts(rt, alloc, input),
+        "word_counts" => return logs::print_counts(rt, alloc, input),
         "live_log" => return logs::print_log(rt, alloc, input),
         "foreign_rows" => foreign_rows::table_within(alloc, input, width),
         _ => text_of(alloc, name),

@@ -1,11 +1,14 @@
-//! Reports: an invoice and a bill, how tests ended, sales with the best ones in a frame, an order whose items are a
-//! table in one of its cells, and what is in stock.
+//! Reports: a price list, an invoice and a bill, how tests ended, sales with the best ones in a frame, an order whose
+//! items are a table in one of its cells, and what is in stock.
 //!
 //! ```text
 //! │ north │     12 │     31 │      8 │
 //! │       │        ┏━━━━━━━━┓        │
 //! │ south │     40 ┃     57 ┃     22 │
 //! ```
+//!
+//! The contracts of the price list say that all lines are equally wide: each function keeps the table's glyphs and
+//! fills one column wide.
 //!
 //! No line goes through a cell that takes several columns, such as a heading, a total or a panel:
 //! [`Table::with_span_crossings`] draws the crossings on its edge by the lines that meet there.
@@ -14,14 +17,55 @@
 //! item has rows in place of columns, or each one is a block of keys and values. Rows of blocks are pushed one
 //! after another. Keys are lent and headings are made, and both are cells of one table without a copy.
 
+ghost use Rattle.std.specs.Prelude.{IfOk, string_bytes};
+ghost use Rattle.pg_table.specs.Even.{IsEvenText, IsNarrowLook};
+
 use crate::rows::rows_of;
 use pg_config::SpannedConfig;
 use pg_layout::{
-    AlignmentHorizontal, Border, Borders, Color, Entity, HorizontalLine, Position, Sides,
+    AlignmentHorizontal, Border, Borders, Color, Entity, HorizontalLine, Indent, Position, Sides,
 };
 use pg_table::{Table, TableFault};
 use std::alloc::{AllocError, Global};
 use std::borrow::CowStr;
+
+const PRICES: &[&[&str]] = &[
+    &["name", "quantity", "price"],
+    &["apples", "12", "3.50"],
+    &["rye bread\n(sliced)", "1", "14.20"],
+];
+
+/// The table of the prices, with a line below its header.
+pub(crate) fn prices(alloc: Global) -> Result<String, TableFault>
+    ensures even { IfOk result (λ text. IsEvenText (string_bytes text)) }
+{
+    let table = spaced(framed(alloc)?).with_numbers_right()?;
+    table
+        .with_header_line(HorizontalLine::sharp())?
+        .to_string(alloc)
+}
+
+// The prices between borders.
+fn framed(alloc: Global) -> Result<Table<&'static str>, TableFault>
+    ensures narrow { IfOk result (λ table. IsNarrowLook table.config) }
+{
+    Ok(Table::new(alloc, rows_of(alloc, PRICES)?)?.with_borders(Borders::sharp()))
+}
+
+// A space at both sides of each text.
+fn spaced(table: Table<&'static str>) -> Table<&'static str>
+    requires narrow { IsNarrowLook table.config }
+    ensures narrow { IsNarrowLook result.config }
+{
+    let beside = Indent { size: 1, fill: ' ' };
+    let above = Indent { size: 0, fill: ' ' };
+    table.with_padding(Sides {
+        left: beside,
+        right: beside,
+        top: above,
+        bottom: above,
+    })
+}
 
 const INVOICE: &[&[&str]] = &[
     &["Invoice 2041", "", "", ""],
