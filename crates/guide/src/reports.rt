@@ -39,7 +39,7 @@ const PRICES: &[&[&str]] = &[
 pub(crate) fn prices(alloc: Global) -> Result<String, TableFault>
     ensures even { IfOk result (λ text. IsEvenText (string_bytes text)) }
 {
-    let table = spaced(framed(alloc)?).with_numbers_right()?;
+    let table = with_numbers_right(spaced(framed(alloc)?))?;
     table
         .with_header_line(HorizontalLine::sharp())?
         .to_string(alloc)
@@ -65,6 +65,14 @@ fn spaced(table: Table<&'static str>) -> Table<&'static str>
         top: above,
         bottom: above,
     })
+}
+
+// Quantities and prices at the right.
+fn with_numbers_right(table: Table<&'static str>) -> Result<Table<&'static str>, TableFault>
+    requires narrow { IsNarrowLook table.config }
+    ensures narrow { IfOk result (λ table. IsNarrowLook table.config) }
+{
+    table.with_numbers_right()
 }
 
 const INVOICE: &[&[&str]] = &[
