@@ -30,7 +30,7 @@ fn no_character() -> io::Error {
 }
 
 impl<R: Read + Drop> Decoded<R> {
-    ghost use Rattle.ruled_io.specs.Formats.{IsOver, IsSeen, KeepsDecoding, decoding_left, items, room, text_left, IsCut};
+    ghost use Rattle.ruled_io.specs.Formats.{IsOver, IsSeen, KeepsDecoding, decoding_left, items, room, text_left};
 
     /// An input in this encoding; without one, a byte order mark of UTF-16 shows this encoding, and all else is UTF-8.
     pub fn new(input: R, encoding: Option<Encoding>) -> Decoded<R>
@@ -138,6 +138,8 @@ impl<R: Read + Drop> Decoded<R> {
 }
 
 impl<R: Read + Drop> Read for Decoded<R> {
+    ghost use Rattle.ruled_io.specs.Formats.{IsCut, text_left};
+
     ghost remaining = { text_left R.remaining };
 
     fn read(&mut self, buf: &mut [u8]) -> io::Result<usize>
