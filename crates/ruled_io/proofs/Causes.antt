@@ -30,7 +30,7 @@ use Rattle.ruled_io.specs.Formats.{content_of, format_in}
 use Rattle.ruled_io.specs.Faults.{failure_in, fault_written, write_part, Begins}
 use Rattle.ruled_io.specs.Requests.{format_told, hides_rows, holds_database, inner_place, known_in, log_of, members_of, rows_needed, sees_database, selection_of}
 use Rattle.ruled_io.specs.Runs.{AreAsked, AreJoined, AreRows, AreRowsAs, CausedAtOnce, LacksInput, LacksInputs, LacksJoined, LacksRows, LacksRowsAs, RemarksAll, ShowsAll, remarks_on}
-use Rattle.ruled_io.specs.Steps.{Draws}
+use Rattle.ruled_io.specs.Steps.{Draws, limit_of_whole}
 use Rattle.ruled_io.specs.declared.fault.InputFault.{InputFault}
 use Rattle.ruled_io.specs.declared.fault.InputFault.TheVariants as input
 use Rattle.ruled_io.specs.declared.fault.InputFault.TheVariants.{Memory}
@@ -50,7 +50,7 @@ use Rattle.ruled_io.proofs.Fronts.{begins-all, begins-kept}
 
 -- ---- the rows of all bytes
 
-module _ {V : Type 0} (rows : V → List (List Text)) (source : Source) (bytes : List ℕ) where
+module _ {V : Type 0} (rows : V → List (List Text)) (needed : Option ℕ) (source : Source) (bytes : List ℕ) where
   -- they are in the bytes
   module _ (members : Rules) (known : Known) (at : members ≡ members_of source) (is : known ≡ format_told source) (other : holds_database source bytes ≡ false) where
     same_fault : input_fault None (members_of source) (format_told source) bytes ≡ input_fault None members known bytes
@@ -60,60 +60,60 @@ module _ {V : Type 0} (rows : V → List (List Text)) (source : Source) (bytes :
     same_rows = ap (λ (k : Known). rows_in None members k bytes) is ∙ ap (λ (p : Rules). rows_in None p (format_told source) bytes) at
 
     pub held_rows : (result : Result V InputFault) → IfOk result (λ v. rows v ≡ rows_in None members known bytes) → Tells (input_fault None members known bytes) result
-        → IfOk result (λ v. AreRows None source bytes (rows v))
-    held_rows (Ok v) held tells = subst (λ (holds : Bool). AreRowsAs None holds source bytes (rows v)) (sym other) (same_fault ∙ tells, held ∙ same_rows)
+        → IfOk result (λ v. AreRows (limit_of_whole (holds_database source bytes) needed) source bytes (rows v))
+    held_rows (Ok v) held tells = subst (λ (holds : Bool). AreRowsAs (limit_of_whole holds needed) holds source bytes (rows v)) (sym other) (same_fault ∙ tells, held ∙ same_rows)
     held_rows (Err fault) held tells = tt
 
-    pub lacking_rows : (result : Result V InputFault) → Tells (input_fault None members known bytes) result → IfErr result (LacksRows None source bytes)
+    pub lacking_rows : (result : Result V InputFault) → Tells (input_fault None members known bytes) result → IfErr result (LacksRows (limit_of_whole (holds_database source bytes) needed) source bytes)
     lacking_rows (Ok v) tells = tt
-    lacking_rows (Err fault) tells = subst (λ (holds : Bool). LacksRowsAs None holds source bytes fault) (sym other) (λ counts. same_fault ∙ tells counts)
+    lacking_rows (Err fault) tells = subst (λ (holds : Bool). LacksRowsAs (limit_of_whole holds needed) holds source bytes fault) (sym other) (λ counts. same_fault ∙ tells counts)
 
   -- they are asked of a database
-  pub asked_held : (result : Result V InputFault) → holds_database source bytes ≡ true → IfOk result (λ v. AreAsked source bytes (rows v)) → IfOk result (λ v. AreRows None source bytes (rows v))
-  asked_held (Ok v) holds asked = subst (λ (h : Bool). AreRowsAs None h source bytes (rows v)) (sym holds) asked
+  pub asked_held : (result : Result V InputFault) → holds_database source bytes ≡ true → IfOk result (λ v. AreAsked needed source bytes (rows v)) → IfOk result (λ v. AreRows (limit_of_whole (holds_database source bytes) needed) source bytes (rows v))
+  asked_held (Ok v) holds asked = subst (λ (h : Bool). AreRowsAs (limit_of_whole h needed) h source bytes (rows v)) (sym holds) asked
   asked_held (Err fault) holds asked = tt
 
-  pub asked_lacking : (result : Result V InputFault) → holds_database source bytes ≡ true → IfErr result (LacksRowsAs None true source bytes) → IfErr result (LacksRows None source bytes)
+  pub asked_lacking : (result : Result V InputFault) → holds_database source bytes ≡ true → IfErr result (LacksRowsAs needed true source bytes) → IfErr result (LacksRows (limit_of_whole (holds_database source bytes) needed) source bytes)
   asked_lacking (Ok v) holds lacks = tt
-  asked_lacking (Err fault) holds lacks = subst (λ (h : Bool). LacksRowsAs None h source bytes fault) (sym holds) lacks
+  asked_lacking (Err fault) holds lacks = subst (λ (h : Bool). LacksRowsAs (limit_of_whole h needed) h source bytes fault) (sym holds) lacks
 
 -- ---- what is asked of a database
 
-module _ {X : Type 0} (selection : Option Selection) (bytes : List ℕ) where
+module _ {X : Type 0} (limit : Option ℕ) (selection : Option Selection) (bytes : List ℕ) where
   -- a fault of a query
-  pub of_query : (found : SqlFault) (result : Result X InputFault) → LacksAnswer selection bytes found → IsErrAnd result (λ fault. fault ≡ fault_of_sql found) → IfErr result (LacksSelected selection bytes)
+  pub of_query : (found : SqlFault) (result : Result X InputFault) → LacksAnswer selection bytes found → IsErrAnd result (λ fault. fault ≡ fault_of_sql found) → IfErr result (LacksSelected limit selection bytes)
   of_query found (Ok x) none told = absurd told
-  of_query sql.Database (Err fault) none told = subst (LacksSelected selection bytes) (sym told) none
-  of_query sql.Damage (Err fault) none told = subst (LacksSelected selection bytes) (sym told) none
-  of_query (sql.NoRows table) (Err fault) none told = subst (LacksSelected selection bytes) (sym told) none
-  of_query (sql.Columns table error) (Err fault) none told = subst (LacksSelected selection bytes) (sym told) none
-  of_query (sql.NoTable left) (Err fault) none told = subst (LacksSelected selection bytes) (sym told) none
-  of_query (sql.Query (query.Refused error)) (Err fault) none told = subst (LacksSelected selection bytes) (sym told) none
-  of_query (sql.Query (query.Missing what left)) (Err fault) none told = subst (LacksSelected selection bytes) (sym told) none
-  of_query (sql.Query (query.Limit steps)) (Err fault) none told = subst (LacksSelected selection bytes) (sym told) none
-  of_query (sql.Query query.Change) (Err fault) none told = subst (LacksSelected selection bytes) (sym told) none
-  of_query (sql.Query (query.Encoding row)) (Err fault) none told = subst (LacksSelected selection bytes) (sym told) none
-  of_query (sql.Query query.Memory) (Err fault) none told = subst (LacksSelected selection bytes) (sym told) tt
-  of_query sql.Memory (Err fault) none told = subst (LacksSelected selection bytes) (sym told) tt
+  of_query sql.Database (Err fault) none told = subst (LacksSelected limit selection bytes) (sym told) none
+  of_query sql.Damage (Err fault) none told = subst (LacksSelected limit selection bytes) (sym told) none
+  of_query (sql.NoRows table) (Err fault) none told = subst (LacksSelected limit selection bytes) (sym told) none
+  of_query (sql.Columns table error) (Err fault) none told = subst (LacksSelected limit selection bytes) (sym told) none
+  of_query (sql.NoTable left) (Err fault) none told = subst (LacksSelected limit selection bytes) (sym told) none
+  of_query (sql.Query (query.Refused error)) (Err fault) none told = subst (LacksSelected limit selection bytes) (sym told) none
+  of_query (sql.Query (query.Missing what left)) (Err fault) none told = subst (LacksSelected limit selection bytes) (sym told) none
+  of_query (sql.Query (query.Limit steps)) (Err fault) none told = subst (LacksSelected limit selection bytes) (sym told) none
+  of_query (sql.Query query.Change) (Err fault) none told = subst (LacksSelected limit selection bytes) (sym told) none
+  of_query (sql.Query (query.Encoding row)) (Err fault) none told = subst (LacksSelected limit selection bytes) (sym told) none
+  of_query (sql.Query query.Memory) (Err fault) none told = subst (LacksSelected limit selection bytes) (sym told) tt
+  of_query sql.Memory (Err fault) none told = subst (LacksSelected limit selection bytes) (sym told) tt
 
   -- a fault of a table, or of the list of all
-  pub of_stored : (found : DatabaseFault) (result : Result X InputFault) → LacksStored selection bytes found → IsErrAnd result (λ fault. fault ≡ fault_of_database found)
-      → IfErr result (LacksSelected selection bytes)
+  pub of_stored : (found : DatabaseFault) (result : Result X InputFault) → LacksStored limit selection bytes found → IsErrAnd result (λ fault. fault ≡ fault_of_database found)
+      → IfErr result (LacksSelected limit selection bytes)
   of_stored found (Ok x) lacks told = absurd told
-  of_stored database.Database (Err fault) lacks told = subst (LacksSelected selection bytes) (sym told) lacks
-  of_stored database.Encoding (Err fault) lacks told = subst (LacksSelected selection bytes) (sym told) lacks
-  of_stored database.Absent (Err fault) lacks told = subst (LacksSelected selection bytes) (sym told) lacks
-  of_stored database.Elsewhere (Err fault) lacks told = subst (LacksSelected selection bytes) (sym told) lacks
-  of_stored database.Keyed (Err fault) lacks told = subst (LacksSelected selection bytes) (sym told) lacks
-  of_stored database.Computed (Err fault) lacks told = subst (LacksSelected selection bytes) (sym told) lacks
-  of_stored (database.Schema table.Damage) (Err fault) lacks told = subst (LacksSelected selection bytes) (sym told) lacks
-  of_stored (database.Schema table.Default) (Err fault) lacks told = subst (LacksSelected selection bytes) (sym told) lacks
-  of_stored (database.Schema (table.Encoding row)) (Err fault) lacks told = subst (LacksSelected selection bytes) (sym told) lacks
-  of_stored (database.Schema table.Memory) (Err fault) lacks told = subst (LacksSelected selection bytes) (sym told) tt
-  of_stored (database.Table table.Damage) (Err fault) lacks told = subst (LacksSelected selection bytes) (sym told) lacks
-  of_stored (database.Table table.Default) (Err fault) lacks told = subst (LacksSelected selection bytes) (sym told) lacks
-  of_stored (database.Table (table.Encoding row)) (Err fault) lacks told = subst (LacksSelected selection bytes) (sym told) lacks
-  of_stored (database.Table table.Memory) (Err fault) lacks told = subst (LacksSelected selection bytes) (sym told) tt
+  of_stored database.Database (Err fault) lacks told = subst (LacksSelected limit selection bytes) (sym told) lacks
+  of_stored database.Encoding (Err fault) lacks told = subst (LacksSelected limit selection bytes) (sym told) lacks
+  of_stored database.Absent (Err fault) lacks told = subst (LacksSelected limit selection bytes) (sym told) lacks
+  of_stored database.Elsewhere (Err fault) lacks told = subst (LacksSelected limit selection bytes) (sym told) lacks
+  of_stored database.Keyed (Err fault) lacks told = subst (LacksSelected limit selection bytes) (sym told) lacks
+  of_stored database.Computed (Err fault) lacks told = subst (LacksSelected limit selection bytes) (sym told) lacks
+  of_stored (database.Schema table.Damage) (Err fault) lacks told = subst (LacksSelected limit selection bytes) (sym told) lacks
+  of_stored (database.Schema table.Default) (Err fault) lacks told = subst (LacksSelected limit selection bytes) (sym told) lacks
+  of_stored (database.Schema (table.Encoding row)) (Err fault) lacks told = subst (LacksSelected limit selection bytes) (sym told) lacks
+  of_stored (database.Schema table.Memory) (Err fault) lacks told = subst (LacksSelected limit selection bytes) (sym told) tt
+  of_stored (database.Table table.Damage) (Err fault) lacks told = subst (LacksSelected limit selection bytes) (sym told) lacks
+  of_stored (database.Table table.Default) (Err fault) lacks told = subst (LacksSelected limit selection bytes) (sym told) lacks
+  of_stored (database.Table (table.Encoding row)) (Err fault) lacks told = subst (LacksSelected limit selection bytes) (sym told) lacks
+  of_stored (database.Table table.Memory) (Err fault) lacks told = subst (LacksSelected limit selection bytes) (sym told) tt
 
 -- ---- what is wrong with the rows that a query reads
 
@@ -198,7 +198,7 @@ of-queried known query bytes fault is =
 
 module _ (query : Query) (known : Known) (bytes : List ℕ) (is : known_in query.known bytes ≡ Some known) where
   abbrev Lacks : InputFault → Type 0
-  Lacks fault = LacksSelected (Some (Select query)) bytes fault
+  Lacks fault = LacksSelected None (Some (Select query)) bytes fault
 
   table-lacks : (fault : InputFault) → LacksTableOf (Some known) query bytes fault → LacksQueried (Some (Select query)) bytes fault
   table-lacks fault lacks = subst (λ (it : Option Known). LacksTableOf it query bytes fault) (sym is) lacks
@@ -220,31 +220,31 @@ module _ (query : Query) (known : Known) (bytes : List ℕ) (is : known_in query
   -- all have them, and the query has none
   pub of_table_query : {X : Type 0} (found : SqlFault) (result : Result X InputFault) → queried_fault known query bytes ≡ None
       → queries.LacksQueried (tables_of known query bytes) (string_bytes query.text) query.steps found
-      → IsErrAnd result (λ fault. fault ≡ fault_of_sql found) → IfErr result (LacksSelected (Some (Select query)) bytes)
+      → IsErrAnd result (λ fault. fault ≡ fault_of_sql found) → IfErr result (LacksSelected None (Some (Select query)) bytes)
   of_table_query found result sound none told =
-      of_query (Some (Select query)) bytes found result (subst (λ (it : Option Known). LacksAnswerOf it query bytes found) (sym is) (sound, none)) told
+      of_query None (Some (Select query)) bytes found result (subst (λ (it : Option Known). LacksAnswerOf it query bytes found) (sym is) (sound, none)) told
 
   -- a fault of rows is handed on
   pub of_rows : {X : Type 0} (found : InputFault) (result : Result X InputFault) → (is_memory found ≡ false → queried_fault known query bytes ≡ Some (but_line_in found)) → IsErrAnd result (λ fault. fault ≡ found)
-      → IfErr result (LacksSelected (Some (Select query)) bytes)
+      → IfErr result (LacksSelected None (Some (Select query)) bytes)
   of_rows found (Ok x) tells told = tt
   of_rows found (Err fault) tells told = subst Lacks (sym told) (of_table found tells)
 
 -- a fault of a selection, where no log hides rows
-pub of_selection : {X : Type 0} (source : Source) (bytes : List ℕ) (result : Result X InputFault) → hides_rows (log_of source) bytes ≡ false → IfErr result (LacksSelected (selection_of source) bytes)
-    → IfErr result (LacksRowsAs None true source bytes)
-of_selection source bytes (Ok x) shown lacks = tt
-of_selection source bytes (Err (input.Rows fault)) shown lacks = (shown, lacks)
-of_selection source bytes (Err (input.Json fault)) shown lacks = (shown, lacks)
-of_selection source bytes (Err (input.Sql fault)) shown lacks = (shown, lacks)
-of_selection source bytes (Err (input.Database fault)) shown lacks = (shown, lacks)
-of_selection source bytes (Err input.Log) shown lacks = absurd lacks
-of_selection source bytes (Err (input.Stream fault)) shown lacks = absurd lacks
-of_selection source bytes (Err (input.Further number fault)) shown lacks = (shown, lacks)
-of_selection source bytes (Err (input.Column name)) shown lacks = absurd lacks
-of_selection source bytes (Err input.Sort) shown lacks = absurd lacks
-of_selection source bytes (Err input.Totals) shown lacks = absurd lacks
-of_selection source bytes (Err input.Memory) shown lacks = tt
+pub of_selection : {X : Type 0} (limit : Option ℕ) (source : Source) (bytes : List ℕ) (result : Result X InputFault) → hides_rows (log_of source) bytes ≡ false
+    → IfErr result (LacksSelected limit (selection_of source) bytes) → IfErr result (LacksRowsAs limit true source bytes)
+of_selection limit source bytes (Ok x) shown lacks = tt
+of_selection limit source bytes (Err (input.Rows fault)) shown lacks = (shown, lacks)
+of_selection limit source bytes (Err (input.Json fault)) shown lacks = (shown, lacks)
+of_selection limit source bytes (Err (input.Sql fault)) shown lacks = (shown, lacks)
+of_selection limit source bytes (Err (input.Database fault)) shown lacks = (shown, lacks)
+of_selection limit source bytes (Err input.Log) shown lacks = absurd lacks
+of_selection limit source bytes (Err (input.Stream fault)) shown lacks = absurd lacks
+of_selection limit source bytes (Err (input.Further number fault)) shown lacks = (shown, lacks)
+of_selection limit source bytes (Err (input.Column name)) shown lacks = absurd lacks
+of_selection limit source bytes (Err input.Sort) shown lacks = absurd lacks
+of_selection limit source bytes (Err input.Totals) shown lacks = absurd lacks
+of_selection limit source bytes (Err input.Memory) shown lacks = tt
 
 -- ---- where the bytes are known
 

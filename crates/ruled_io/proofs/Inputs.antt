@@ -35,7 +35,7 @@ use Rattle.ruled_csv.specs.declared.dialect.Dialect.{Dialect}
 use Rattle.ruled_io.specs.Faults.{IsOfRead, but_line_in, fault_of_rows, is_memory, but_line_further, of_further}
 use Rattle.ruled_io.specs.Input.{fault_within, input_fault, rows_in, rows_within, fault_from, fault_held, fault_read, further_fault, further_table, joined, joined_rows, members_in, misfit, names_columns, queried_fault, rows_held, rows_of_all, tables_fault}
 use Rattle.ruled_io.specs.Runs.{AreRows, AreRowsAs, LacksInput, LacksRows, LacksRowsAs}
-use Rattle.ruled_io.specs.Steps.{AreFirst, IsEnough, LacksFirst, fault_of_first, plain_lines, wrong_within, beneath}
+use Rattle.ruled_io.specs.Steps.{AreFirst, IsEnough, LacksFirst, fault_of_first, limit_of_whole, plain_lines, wrong_within, beneath}
 use Rattle.ruled_io.specs.declared.fault.InputFault.{InputFault}
 use Rattle.ruled_io.specs.declared.formats.Known.TheVariants as known
 use Rattle.std.specs.Cmp.Lexicographic.{pointwise, pointwise_decides}
@@ -217,19 +217,21 @@ within-other limit members (Separated dialect) bytes other = absurd (true≢fals
 within-other limit members Json bytes other = (refl, refl)
 within-other limit members JsonLines bytes other = (refl, refl)
 
-module _ (origin : Source) (limit : ℕ) (bytes : List ℕ) where
-  other-rows : (holds : Bool) (rows : List (List Text)) → (holds ≡ false → is_separated (format_in (format_told origin) bytes) ≡ false) → AreRowsAs None holds origin bytes rows → AreRowsAs (Some limit) holds origin bytes rows
-  other-rows true rows other are = are
-  other-rows false rows other (fine, are) =
+module _ (origin : Source) (bytes : List ℕ) where
+  other-rows : (needed : Option ℕ) (holds : Bool) (rows : List (List Text)) → (holds ≡ false → is_separated (format_in (format_told origin) bytes) ≡ false) → AreRowsAs (limit_of_whole holds needed) holds origin bytes rows
+      → AreRowsAs needed holds origin bytes rows
+  other-rows needed true rows other are = are
+  other-rows None false rows other are = are
+  other-rows (Some limit) false rows other (fine, are) =
       let format : Format = format_in (format_told origin) bytes in
       let (same, told) = within-other limit (members_of origin) format (content_of format bytes) (other refl) in
       (told ∙ fine, are ∙ sym same)
 
-  other-lacks : (holds : Bool) (fault : InputFault) → (holds ≡ false → is_separated (format_in (format_told origin) bytes) ≡ false) → LacksRowsAs None holds origin bytes fault → LacksRowsAs (Some limit) holds origin bytes fault
-  other-lacks true fault other lacks = go fault lacks where
-    go : (f : InputFault) → LacksRowsAs None true origin bytes f → LacksRowsAs (Some limit) true origin bytes f
-    go f lacks = lacks
-  other-lacks false fault other lacks = λ soft. (within-other limit (members_of origin) (format_in (format_told origin) bytes) (content_of (format_in (format_told origin) bytes) bytes) (other refl)).1 ∙ lacks soft
+  other-lacks : (needed : Option ℕ) (holds : Bool) (fault : InputFault) → (holds ≡ false → is_separated (format_in (format_told origin) bytes) ≡ false) → LacksRowsAs (limit_of_whole holds needed) holds origin bytes fault
+      → LacksRowsAs needed holds origin bytes fault
+  other-lacks needed true fault other lacks = lacks
+  other-lacks None false fault other lacks = lacks
+  other-lacks (Some limit) false fault other lacks = λ soft. (within-other limit (members_of origin) (format_in (format_told origin) bytes) (content_of (format_in (format_told origin) bytes) bytes) (other refl)).1 ∙ lacks soft
 
 -- ---- all rows, where fewer are there than are needed
 
@@ -266,35 +268,21 @@ few-lack limit members Json bytes fault is = is
 few-lack limit members JsonLines bytes fault is = is
 
 module _ (origin : Source) (limit : ℕ) (bytes : List ℕ) where
-  needed-are : (needed : Option ℕ) (holds : Bool) (rows : List (List Text)) → AreRowsAs (Some (unwrap_or needed limit)) holds origin bytes rows → length rows < limit → AreRowsAs needed holds origin bytes rows
-  needed-are (Some n) holds rows are few = are
-  needed-are None true rows are few = are
-  needed-are None false rows (none, are) few =
+  needed-are : (needed : Option ℕ) (rows : List (List Text)) → AreRowsAs (Some (unwrap_or needed limit)) false origin bytes rows → length rows < limit → AreRowsAs needed false origin bytes rows
+  needed-are (Some n) rows are few = are
+  needed-are None rows (none, are) few =
       let format : Format = format_in (format_told origin) bytes in
       few-are limit (members_of origin) format (content_of format bytes) rows none are few
 
-  needed-lack : (needed : Option ℕ) (holds : Bool) (fault : InputFault) → LacksRowsAs (Some (unwrap_or needed limit)) holds origin bytes fault → LacksRowsAs needed holds origin bytes fault
-  needed-lack (Some n) holds fault lacks = lacks
-  needed-lack None true fault lacks = go fault lacks where
-    go : (f : InputFault) → LacksRowsAs (Some limit) true origin bytes f → LacksRowsAs None true origin bytes f
-    go f lacks = lacks
-  needed-lack None false fault lacks = λ soft.
+  needed-lack : (needed : Option ℕ) (fault : InputFault) → LacksRowsAs (Some (unwrap_or needed limit)) false origin bytes fault → LacksRowsAs needed false origin bytes fault
+  needed-lack (Some n) fault lacks = lacks
+  needed-lack None fault lacks = λ soft.
       let format : Format = format_in (format_told origin) bytes in
       few-lack limit (members_of origin) format (content_of format bytes) (but_line_in fault) (lacks soft)
 
-  -- as many rows as are needed, or all, of which there are fewer than the greatest number
-  pub rows-needed : (needed : Option ℕ) (rows : List (List Text)) → AreRows (Some (unwrap_or needed limit)) origin bytes rows → length rows < limit → AreRows needed origin bytes rows
-  rows-needed needed rows are few = needed-are needed (holds_database origin bytes) rows are few
-
-  pub needed-lacks : (needed : Option ℕ) (fault : RunFault) → LacksInput (Some (unwrap_or needed limit)) origin bytes fault → LacksInput needed origin bytes fault
-  needed-lacks needed (Input fault) lacks = needed-lack needed (holds_database origin bytes) fault lacks
-  needed-lacks needed (Read fault) lacks = lacks
-  needed-lacks needed Closed lacks = lacks
-  needed-lacks needed Write lacks = lacks
-
 -- ---- an input of which the first bytes were read
 
-module _ (origin : Source) (limit : ℕ) (front : List ℕ) where
+module _ (origin : Source) (needed : Option ℕ) (front : List ℕ) where
   -- it is a database, or has another format
   abbrev pub IsOther : Type 0
   IsOther = (holds_database origin front ≡ true) ⊎ (is_separated (format_streamed (format_told origin) front) ≡ false)
@@ -308,31 +296,37 @@ module _ (origin : Source) (limit : ℕ) (front : List ℕ) where
   known-rest : (P : List ℕ → Type 0) (left : Option (List ℕ)) (rest : List ℕ) → left ≡ Some rest → IfSome left P → P rest
   known-rest P left rest is holds = subst (λ (l : Option (List ℕ)). IfSome l P) is holds
 
+  abbrev AreWhole : List ℕ → List (List Text) → Type 0
+  AreWhole bytes rows = AreRows (limit_of_whole (holds_database origin bytes) needed) origin bytes rows
+
+  abbrev LacksWhole : List ℕ → RunFault → Type 0
+  LacksWhole bytes fault = LacksInput (limit_of_whole (holds_database origin bytes) needed) origin bytes fault
+
   -- then all of it is read
   pub whole-rows : {V : Type 0} (view : V → List (List Text)) (given left : Option (List ℕ)) (result : Result V RunFault) → IsOther → IfSome given (λ all. ReadsFront origin all left front)
-      → IfOk result (λ v. IfSome left (λ rest. AreRows None origin (front ++ rest) (view v))) → IfOk result (λ v. IfSome given (λ all. AreRows (Some limit) origin all (view v)))
+      → IfOk result (λ v. IfSome left (λ rest. AreWhole (front ++ rest) (view v))) → IfOk result (λ v. IfSome given (λ all. AreRows needed origin all (view v)))
   whole-rows view given left (Err fault) other reads rows = tt
   whole-rows view None left (Ok v) other reads rows = tt
   whole-rows view (Some all) left (Ok v) other (rest, is, left-is, shows) rows =
-      let these : AreRows None origin (front ++ rest) (view v) = known-rest (λ bytes. AreRows None origin (front ++ bytes) (view v)) left rest left-is rows in
-      other-rows origin limit all (holds_database origin all) (view v) (other-format all rest is shows other) (subst (λ (bytes : List ℕ). AreRows None origin bytes (view v)) (sym is) these)
+      let these : AreWhole (front ++ rest) (view v) = known-rest (λ bytes. AreWhole (front ++ bytes) (view v)) left rest left-is rows in
+      other-rows origin all needed (holds_database origin all) (view v) (other-format all rest is shows other) (subst (λ (bytes : List ℕ). AreWhole bytes (view v)) (sym is) these)
 
-  lacks-whole : (all : List ℕ) (fault : RunFault) → (holds_database origin all ≡ false → is_separated (format_in (format_told origin) all) ≡ false) → LacksInput None origin all fault → LacksInput (Some limit) origin all fault
-  lacks-whole all (Input fault) other lacks = other-lacks origin limit all (holds_database origin all) fault other lacks
+  lacks-whole : (all : List ℕ) (fault : RunFault) → (holds_database origin all ≡ false → is_separated (format_in (format_told origin) all) ≡ false) → LacksWhole all fault → LacksInput needed origin all fault
+  lacks-whole all (Input fault) other lacks = other-lacks origin all needed (holds_database origin all) fault other lacks
   lacks-whole all (Read fault) other lacks = lacks
   lacks-whole all Closed other lacks = lacks
   lacks-whole all Write other lacks = lacks
 
   pub whole-lacks : {V : Type 0} (given left : Option (List ℕ)) (result : Result V RunFault) → IsOther → IfSome given (λ all. ReadsFront origin all left front)
-      → IfErr result (λ fault. IfSome left (λ rest. LacksInput None origin (front ++ rest) fault)) → IfErr result (λ fault. IfSome given (λ all. LacksInput (Some limit) origin all fault))
+      → IfErr result (λ fault. IfSome left (λ rest. LacksWhole (front ++ rest) fault)) → IfErr result (λ fault. IfSome given (λ all. LacksInput needed origin all fault))
   whole-lacks given left (Ok v) other reads lacks = tt
   whole-lacks None left (Err fault) other reads lacks = tt
   whole-lacks (Some all) left (Err fault) other (rest, is, left-is, shows) lacks =
-      let these : LacksInput None origin (front ++ rest) fault = known-rest (λ bytes. LacksInput None origin (front ++ bytes) fault) left rest left-is lacks in
-      lacks-whole all fault (other-format all rest is shows other) (subst (λ (bytes : List ℕ). LacksInput None origin bytes fault) (sym is) these)
+      let these : LacksWhole (front ++ rest) fault = known-rest (λ bytes. LacksWhole (front ++ bytes) fault) left rest left-is lacks in
+      lacks-whole all fault (other-format all rest is shows other) (subst (λ (bytes : List ℕ). LacksWhole bytes fault) (sym is) these)
 
   -- else its first rows
-  module _ (none : holds_database origin front ≡ false) (dialect : Dialect) (seen : format_streamed (format_told origin) front ≡ Separated dialect) where
+  module _ (most : ℕ) (none : holds_database origin front ≡ false) (dialect : Dialect) (seen : format_streamed (format_told origin) front ≡ Separated dialect) where
     in-is : (all rest : List ℕ) → all ≡ front ++ rest → ShowsSource origin front rest → format_in (format_told origin) all ≡ Separated dialect
     in-is all rest is (same, shows) =
         shown-in (format_told origin) (strip_bom all) dialect (ap (λ (bytes : List ℕ). format_shown (format_told origin) (strip_bom bytes)) is ∙ (shows none).format ∙ seen)
@@ -344,27 +338,30 @@ module _ (origin : Source) (limit : ℕ) (front : List ℕ) where
     holds-is : (all rest : List ℕ) → all ≡ front ++ rest → ShowsSource origin front rest → holds_database origin all ≡ false
     holds-is all rest is (same, shows) = ap (holds_database origin) is ∙ same ∙ none
 
-    heads-are : (all content : List ℕ) (rows : List (List Text)) → format_in (format_told origin) all ≡ Separated dialect → content_of (Separated dialect) all ≡ content → AreFirst (Separated dialect) limit content rows
-        → AreRowsAs (Some limit) false origin all rows
+    heads-are : (all content : List ℕ) (rows : List (List Text)) → format_in (format_told origin) all ≡ Separated dialect → content_of (Separated dialect) all ≡ content → AreFirst (Separated dialect) (unwrap_or needed most) content rows
+        → AreRowsAs (Some (unwrap_or needed most)) false origin all rows
     heads-are all content rows format content-same first = rw (format, content-same) first
 
-    heads-lack : (all content : List ℕ) (fault : RunFault) → format_in (format_told origin) all ≡ Separated dialect → content_of (Separated dialect) all ≡ content → holds_database origin all ≡ false → LacksFirst (Separated dialect) limit content fault
-        → LacksInput (Some limit) origin all fault
-    heads-lack all content (Input fault) format content-same holds lacks = subst (λ (h : Bool). LacksRowsAs (Some limit) h origin all fault) (sym holds) (λ soft. rw (format, content-same) (lacks soft))
+    heads-lack : (all content : List ℕ) (fault : RunFault) → format_in (format_told origin) all ≡ Separated dialect → content_of (Separated dialect) all ≡ content → holds_database origin all ≡ false → LacksFirst (Separated dialect) (unwrap_or needed most) content fault
+        → LacksInput needed origin all fault
+    heads-lack all content (Input fault) format content-same holds lacks =
+        let first : LacksRowsAs (Some (unwrap_or needed most)) false origin all fault = λ soft. rw (format, content-same) (lacks soft) in
+        subst (λ (h : Bool). LacksRowsAs needed h origin all fault) (sym holds) (needed-lack origin most all needed fault first)
     heads-lack all content (Read fault) format content-same holds lacks = lacks
     heads-lack all content Closed format content-same holds lacks = lacks
     heads-lack all content Write format content-same holds lacks = lacks
 
     pub first-rows-are : {V : Type 0} (view : V → List (List Text)) (given left : Option (List ℕ)) (result : Result V RunFault) → IfSome given (λ all. ReadsFront origin all left front)
-        → ((rest : List ℕ) → left ≡ Some rest → IfOk result (λ v. AreFirst (Separated dialect) limit (content_of (Separated dialect) front ++ rest) (view v))) → IfOk result (λ v. IfSome given (λ all. AreRows (Some limit) origin all (view v)))
+        → ((rest : List ℕ) → left ≡ Some rest → IfOk result (λ v. AreFirst (Separated dialect) (unwrap_or needed most) (content_of (Separated dialect) front ++ rest) (view v))) → IfOk result (λ v. length (view v) < most → IfSome given (λ all. AreRows needed origin all (view v)))
     first-rows-are view given left (Err fault) reads rows = tt
-    first-rows-are view None left (Ok v) reads rows = tt
-    first-rows-are view (Some all) left (Ok v) (rest, is, left-is, shows) rows =
-        subst (λ (h : Bool). AreRowsAs (Some limit) h origin all (view v)) (sym (holds-is all rest is shows))
-        (heads-are all (content_of (Separated dialect) front ++ rest) (view v) (in-is all rest is shows) (content-is all rest is shows) (rows rest left-is))
+    first-rows-are view None left (Ok v) reads rows = λ few. tt
+    first-rows-are view (Some all) left (Ok v) (rest, is, left-is, shows) rows = λ few.
+        let first : AreRowsAs (Some (unwrap_or needed most)) false origin all (view v) =
+        heads-are all (content_of (Separated dialect) front ++ rest) (view v) (in-is all rest is shows) (content-is all rest is shows) (rows rest left-is) in
+        subst (λ (h : Bool). AreRowsAs needed h origin all (view v)) (sym (holds-is all rest is shows)) (needed-are origin most all needed (view v) first few)
 
     pub first-rows-lack : {V : Type 0} (given left : Option (List ℕ)) (result : Result V RunFault) → IfSome given (λ all. ReadsFront origin all left front)
-        → ((rest : List ℕ) → left ≡ Some rest → IfErr result (LacksFirst (Separated dialect) limit (content_of (Separated dialect) front ++ rest))) → IfErr result (λ fault. IfSome given (λ all. LacksInput (Some limit) origin all fault))
+        → ((rest : List ℕ) → left ≡ Some rest → IfErr result (LacksFirst (Separated dialect) (unwrap_or needed most) (content_of (Separated dialect) front ++ rest))) → IfErr result (λ fault. IfSome given (λ all. LacksInput needed origin all fault))
     first-rows-lack given left (Ok v) reads lacks = tt
     first-rows-lack None left (Err fault) reads lacks = tt
     first-rows-lack (Some all) left (Err fault) (rest, is, left-is, shows) lacks =

@@ -1,6 +1,6 @@
 -- The rows that an input holds, those of several inputs, and those that are asked of a database.
 use Rattle.std.specs.Prelude.{ℕ, nat_lt, List, length, take, Option, Some, None, option_map, if◌then◌else◌, suc, ◌==◌, ◌&&◌, ◌||◌, Bool, false, [], ◌∷◌, ◌++◌, drop, map, ◌≡◌, ⊤}
-use Rattle.std.specs.Prelude.{string_bytes}
+use Rattle.std.specs.Prelude.{string_bytes, ◌-◌}
 use Rattle.csv.specs.Reading.{strip_bom}
 use Rattle.pg_layout.specs.Text.{Text}
 use Rattle.ruled_csv.specs.Rows as csv_rows
@@ -169,12 +169,16 @@ AreAnswer None query bytes rows = AreAnswered bytes (string_bytes query.text) qu
 AreAnswer (Some known) query bytes rows =
     (queried_fault known query bytes ≡ None) × AreQueried (tables_of known query bytes) (string_bytes query.text) query.steps (string_bytes query.null) rows
 
--- what a query answers, the rows of a table, or the list of the tables
-abbrev pub AreSelected : Option Selection → List ℕ → List (List Text) → Type 0
-AreSelected None bytes rows = IsListing bytes rows
-AreSelected (Some (Select query)) bytes rows = AreAnswer (known_in query.known bytes) query bytes rows
-AreSelected (Some (Table name null_text)) bytes rows = AreTable None bytes (string_bytes name) (string_bytes null_text) rows
-AreSelected (Some Tables) bytes rows = IsListing bytes rows
+-- of so many rows, those below row 0
+abbrev pub below_names : Option ℕ → Option ℕ
+below_names limit = option_map (λ rows. rows - 1) limit
+
+-- what a query answers, the rows of a table, of which so many are needed, or the list of the tables
+abbrev pub AreSelected : Option ℕ → Option Selection → List ℕ → List (List Text) → Type 0
+AreSelected limit None bytes rows = IsListing bytes rows
+AreSelected limit (Some (Select query)) bytes rows = AreAnswer (known_in query.known bytes) query bytes rows
+AreSelected limit (Some (Table name null_text)) bytes rows = AreTable (below_names limit) bytes (string_bytes name) (string_bytes null_text) rows
+AreSelected limit (Some Tables) bytes rows = IsListing bytes rows
 
 -- why a query has no rows, where the inputs have them
 abbrev pub LacksAnswerOf : Option Known → Query → List ℕ → SqlFault → Type 0
@@ -199,22 +203,22 @@ LacksQueried (Some (Table name null_text)) bytes fault = ⊥
 LacksQueried (Some Tables) bytes fault = ⊥
 
 -- why a table has none, or there is no list
-abbrev pub LacksStored : Option Selection → List ℕ → DatabaseFault → Type 0
-LacksStored None bytes fault = LacksListing bytes fault
-LacksStored (Some (Select query)) bytes fault = ⊥
-LacksStored (Some (Table name null_text)) bytes fault = LacksTable None bytes (string_bytes name) (string_bytes null_text) fault
-LacksStored (Some Tables) bytes fault = LacksListing bytes fault
+abbrev pub LacksStored : Option ℕ → Option Selection → List ℕ → DatabaseFault → Type 0
+LacksStored limit None bytes fault = LacksListing bytes fault
+LacksStored limit (Some (Select query)) bytes fault = ⊥
+LacksStored limit (Some (Table name null_text)) bytes fault = LacksTable (below_names limit) bytes (string_bytes name) (string_bytes null_text) fault
+LacksStored limit (Some Tables) bytes fault = LacksListing bytes fault
 
 -- why there are no rows, unless memory was refused
-abbrev pub LacksSelected : Option Selection → List ℕ → InputFault → Type 0
-LacksSelected selection bytes (input.Rows fault) = LacksQueried selection bytes (input.Rows fault)
-LacksSelected selection bytes (input.Json fault) = LacksQueried selection bytes (input.Json fault)
-LacksSelected selection bytes (input.Sql fault) = LacksAnswer selection bytes fault
-LacksSelected selection bytes (input.Database fault) = LacksStored selection bytes fault
-LacksSelected selection bytes input.Log = ⊥
-LacksSelected selection bytes (input.Stream fault) = ⊥
-LacksSelected selection bytes (input.Further number fault) = LacksQueried selection bytes (input.Further number fault)
-LacksSelected selection bytes (input.Column name) = ⊥
-LacksSelected selection bytes input.Sort = ⊥
-LacksSelected selection bytes input.Totals = ⊥
-LacksSelected selection bytes input.Memory = ⊤
+abbrev pub LacksSelected : Option ℕ → Option Selection → List ℕ → InputFault → Type 0
+LacksSelected limit selection bytes (input.Rows fault) = LacksQueried selection bytes (input.Rows fault)
+LacksSelected limit selection bytes (input.Json fault) = LacksQueried selection bytes (input.Json fault)
+LacksSelected limit selection bytes (input.Sql fault) = LacksAnswer selection bytes fault
+LacksSelected limit selection bytes (input.Database fault) = LacksStored limit selection bytes fault
+LacksSelected limit selection bytes input.Log = ⊥
+LacksSelected limit selection bytes (input.Stream fault) = ⊥
+LacksSelected limit selection bytes (input.Further number fault) = LacksQueried selection bytes (input.Further number fault)
+LacksSelected limit selection bytes (input.Column name) = ⊥
+LacksSelected limit selection bytes input.Sort = ⊥
+LacksSelected limit selection bytes input.Totals = ⊥
+LacksSelected limit selection bytes input.Memory = ⊤

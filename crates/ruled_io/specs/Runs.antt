@@ -21,14 +21,14 @@ use Rattle.ruled_io.specs.declared.request.Source.{Source}
 -- ---- the rows of all bytes, or of the first of them where so many rows are needed
 
 -- no row stands elsewhere, and these are the answer
-abbrev pub AreAsked : Source → List ℕ → List (List Text) → Type 0
-AreAsked source bytes rows = (hides_rows (log_of source) bytes ≡ false) × AreSelected (selection_of source) bytes rows
+abbrev pub AreAsked : Option ℕ → Source → List ℕ → List (List Text) → Type 0
+AreAsked limit source bytes rows = (hides_rows (log_of source) bytes ≡ false) × AreSelected limit (selection_of source) bytes rows
 
 -- the rows are the answer, or those that the bytes hold
 abbrev pub AreRowsAs : Option ℕ → Bool → Source → List ℕ → List (List Text) → Type 0
 AreRowsAs limit false source bytes rows =
     (input_fault limit (members_of source) (format_told source) bytes ≡ None) × (rows ≡ rows_in limit (members_of source) (format_told source) bytes)
-AreRowsAs limit true source bytes rows = AreAsked source bytes rows
+AreRowsAs limit true source bytes rows = AreAsked limit source bytes rows
 
 abbrev pub AreRows : Option ℕ → Source → List ℕ → List (List Text) → Type 0
 AreRows limit source bytes rows = AreRowsAs limit (holds_database source bytes) source bytes rows
@@ -41,7 +41,7 @@ LacksRowsAs limit true source bytes (input.Json fault) = (hides_rows (log_of sou
 LacksRowsAs limit true source bytes (input.Stream fault) = ⊥
 LacksRowsAs limit true source bytes (input.Further number fault) = (hides_rows (log_of source) bytes ≡ false) × LacksQueried (selection_of source) bytes (input.Further number fault)
 LacksRowsAs limit true source bytes (input.Sql fault) = (hides_rows (log_of source) bytes ≡ false) × LacksAnswer (selection_of source) bytes fault
-LacksRowsAs limit true source bytes (input.Database fault) = (hides_rows (log_of source) bytes ≡ false) × LacksStored (selection_of source) bytes fault
+LacksRowsAs limit true source bytes (input.Database fault) = (hides_rows (log_of source) bytes ≡ false) × LacksStored limit (selection_of source) bytes fault
 LacksRowsAs limit true source bytes input.Log = hides_rows (log_of source) bytes ≡ true
 LacksRowsAs limit true source bytes (input.Column name) = ⊥
 LacksRowsAs limit true source bytes input.Sort = ⊥

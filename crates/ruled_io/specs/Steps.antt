@@ -1,5 +1,5 @@
 -- What the parts of a run do.
-use Rattle.std.specs.Prelude.{◌≡◌, ◌⊎◌, ℕ, ◌≤◌, true, false, ⊤, List, [], ◌∷◌, ◌++◌, drop, length, nat_lt, take, Option, Some, None, option_map, Result, Ok, Err, if◌then◌else◌}
+use Rattle.std.specs.Prelude.{◌≡◌, ◌⊎◌, ℕ, ◌≤◌, Bool, true, false, ⊤, List, [], ◌∷◌, ◌++◌, drop, length, nat_lt, take, Option, Some, None, option_map, Result, Ok, Err, if◌then◌else◌}
 use Rattle.std.specs.Io.KnownBytes.{Appends, Keeps}
 use Rattle.pg_layout.specs.Text.{Text}
 use Rattle.ruled_table.specs.Layouts.{Plan}
@@ -94,6 +94,11 @@ beneath options [] rows = rows
 beneath options (first ∷ above) rows = (first ∷ above) ++ (if names_columns options then drop 1 rows else rows)
 
 -- ---- the first rows of an input
+
+-- so many rows are needed of an input that is read to its end, if it holds a database; else all
+abbrev pub limit_of_whole : Bool → Option ℕ → Option ℕ
+limit_of_whole true limit = limit
+limit_of_whole false limit = None
 
 -- no rule of lines of JSON is asked for
 abbrev pub plain_lines : LineRules

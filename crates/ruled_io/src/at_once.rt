@@ -32,7 +32,7 @@ use std::io::{Read, Write};
 use std::mem::forget;
 
 // The rows of all inputs: of the first one as many as are needed, and all of those below them. Nothing else is kept of
-// rows of separated values.
+// rows of separated values, and of a table no row is made that isn't needed.
 fn read_rows<R: Read + Drop>(
     alloc: Global,
     request: &Request,
@@ -43,11 +43,7 @@ fn read_rows<R: Read + Drop>(
     ensures unwritten { IfErr result (λ fault. write_part fault ≡ None) }
     ensures noted { ReportsRead (read_failure pieces.new) result }
 {
-    let limit = rows_needed(request).unwrap_or(usize::MAX);
-    let rows = read_heads(alloc, &request.source, limit, pieces)?;
-    if rows.len() == usize::MAX {
-        return Err(RunFault::Input(InputFault::Memory));
-    }
+    let rows = read_heads(alloc, &request.source, rows_needed(request), pieces)?;
     Ok(joined(alloc, &request.view, &request.further, rows)?)
 }
 

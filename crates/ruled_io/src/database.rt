@@ -5,7 +5,7 @@ ghost use Rattle.csv.specs.Records.{fields_of};
 ghost use Rattle.ruled_sql.specs.Filled as sql;
 ghost use Rattle.ruled_io.specs.Faults.{Tells};
 ghost use Rattle.ruled_io.specs.Input as spec;
-ghost use Rattle.ruled_io.specs.Input.{AreAnswer, AreSelected, LacksSelected, table_of};
+ghost use Rattle.ruled_io.specs.Input.{AreAnswer, AreSelected, LacksSelected, below_names, table_of};
 ghost use Rattle.ruled_io.specs.Requests.{known_in};
 ghost use Rattle.ruled_io.specs.Runs.{AreAsked, LacksRowsAs};
 ghost use Rattle.ruled_io.specs.declared.request.Selection.TheVariants.{Query as Select};
@@ -86,7 +86,7 @@ fn queried_rows(
     bytes: &[u8],
 ) -> Result<Vec<TextRow>, InputFault>
     ensures rows { IfOk result (λ rows. AreAnswer (Some known) query.now bytes.now (map fields_of rows.items)) }
-    ensures cause { known_in query.now.known bytes.now ≡ Some known → IfErr result (LacksSelected (Some (Select query.now)) bytes.now) }
+    ensures cause { known_in query.now.known bytes.now ≡ Some known → IfErr result (LacksSelected None (Some (Select query.now)) bytes.now) }
 {
     let rows = rows_in(alloc, known, &query.members, bytes)?;
     let first = table_of(alloc, query, rows)?;
@@ -98,7 +98,7 @@ fn queried_rows(
 // The rows that a query answers.
 fn answer_rows(alloc: Global, query: &Query, bytes: &[u8]) -> Result<Vec<TextRow>, InputFault>
     ensures rows { IfOk result (λ rows. AreAnswer (known_in query.now.known bytes.now) query.now bytes.now (map fields_of rows.items)) }
-    ensures cause { IfErr result (LacksSelected (Some (Select query.now)) bytes.now) }
+    ensures cause { IfErr result (LacksSelected None (Some (Select query.now)) bytes.now) }
 {
     match query.known_in(bytes) {
         Some(known) => queried_rows(alloc, query, known, bytes),
@@ -109,35 +109,48 @@ fn answer_rows(alloc: Global, query: &Query, bytes: &[u8]) -> Result<Vec<TextRow
     }
 }
 
-// The rows of a selection, or the tables where there is none.
+// How many rows are needed below the names of columns, where so many are needed with these, if not all.
+fn below_names(needed: Option<usize>) -> Option<usize>
+    ensures { result ≡ below_names needed }
+{
+    match needed {
+        Some(rows) => Some(rows.saturating_sub(1)),
+        None => None,
+    }
+}
+
+// The rows of a selection, or the tables where there is none. Of a table, so many are needed, if not all.
 fn selected_rows(
     alloc: Global,
     selection: Option<&Selection>,
+    needed: Option<usize>,
     bytes: &[u8],
 ) -> Result<Vec<TextRow>, InputFault>
-    ensures rows { IfOk result (λ rows. AreSelected (option_map (λ it. it.now) selection.entry) bytes.now (map fields_of rows.items)) }
-    ensures cause { IfErr result (LacksSelected (option_map (λ it. it.now) selection.entry) bytes.now) }
+    ensures rows { IfOk result (λ rows. AreSelected needed (option_map (λ it. it.now) selection.entry) bytes.now (map fields_of rows.items)) }
+    ensures cause { IfErr result (LacksSelected needed (option_map (λ it. it.now) selection.entry) bytes.now) }
 {
     match selection {
         Some(Selection::Query(query)) => answer_rows(alloc, query, bytes),
         Some(Selection::Table { name, null }) => {
-            Ok(table_rows(alloc, bytes, name.as_str(), null.as_str(), None)?)
+            let below = below_names(needed);
+            Ok(table_rows(alloc, bytes, name.as_str(), null.as_str(), below)?)
         }
         Some(Selection::Tables) | None => Ok(list_rows(alloc, bytes)?),
     }
 }
 
-/// The rows that are asked of a database, or by a query.
+/// The rows that are asked of a database, or by a query. Of a table, so many are needed, if not all.
 pub(crate) fn asked_rows(
     alloc: Global,
     source: &Source,
+    needed: Option<usize>,
     bytes: &[u8],
 ) -> Result<Vec<TextRow>, InputFault>
-    ensures rows { IfOk result (λ rows. AreAsked source.now bytes.now (map fields_of rows.items)) }
-    ensures cause { IfErr result (LacksRowsAs None true source.now bytes.now) }
+    ensures rows { IfOk result (λ rows. AreAsked needed source.now bytes.now (map fields_of rows.items)) }
+    ensures cause { IfErr result (LacksRowsAs needed true source.now bytes.now) }
 {
     if source.log().hides_rows(bytes) {
         return Err(InputFault::Log);
     }
-    selected_rows(alloc, source.selection(), bytes)
+    selected_rows(alloc, source.selection(), needed, bytes)
 }

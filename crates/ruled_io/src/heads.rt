@@ -4,11 +4,11 @@ ghost use Rattle.std.specs.Prelude.{◌≡◌, ◌++◌, ℕ, List, None, Some, 
 ghost use Rattle.csv.specs.Records.{fields_of};
 ghost use Rattle.ruled_io.specs.Faults.{write_part};
 ghost use Rattle.ruled_io.specs.Reading.{ReportsRead, read_failure};
-ghost use Rattle.ruled_io.specs.Requests.{rows_needed};
+ghost use Rattle.ruled_io.specs.Requests.{holds_database, rows_needed};
 ghost use Rattle.ruled_io.specs.Runs.{AreRows, LacksInput};
-ghost use Rattle.ruled_io.specs.Steps.{AreFirst, LacksFirst};
+ghost use Rattle.ruled_io.specs.Steps.{AreFirst, LacksFirst, limit_of_whole};
 
-use crate::fault::RunFault;
+use crate::fault::{InputFault, RunFault};
 use crate::formats::{Format, content_of, format_streamed};
 use crate::input::all_rows;
 use crate::pieces::Pieces;
@@ -61,42 +61,49 @@ fn first_rows<R: Read + Drop>(
     Ok(rows)
 }
 
-// The rows of an input that is read to its end, of which these are the first bytes.
+// The rows of an input that is read to its end, of which these are the first bytes. Of a table of a database, so many are
+// needed, if not all.
 fn whole_rows<R: Read + Drop>(
     alloc: Global,
     source: &Source,
+    needed: Option<usize>,
     front: Vec<u8>,
     pieces: &mut Pieces<R>,
 ) -> Result<Vec<TextRow>, RunFault>
-    ensures rows { IfOk result (λ rows. IfSome (R.remaining pieces.old.input) (λ rest. AreRows None source.now (front.items ++ rest) (map fields_of rows.items))) }
-    ensures cause { IfErr result (λ fault. IfSome (R.remaining pieces.old.input) (λ rest. LacksInput None source.now (front.items ++ rest) fault)) }
+    ensures rows { IfOk result (λ rows. IfSome (R.remaining pieces.old.input) (λ rest. AreRows (limit_of_whole (holds_database source.now (front.items ++ rest)) needed) source.now (front.items ++ rest) (map fields_of rows.items))) }
+    ensures cause { IfErr result (λ fault. IfSome (R.remaining pieces.old.input) (λ rest. LacksInput (limit_of_whole (holds_database source.now (front.items ++ rest)) needed) source.now (front.items ++ rest) fault)) }
     ensures unwritten { IfErr result (λ fault. write_part fault ≡ None) }
     ensures noted { ReportsRead (read_failure pieces.new) result }
 {
     let mut bytes = front;
     pieces.read_rest(&mut bytes)?;
-    Ok(all_rows(alloc, source, &bytes)?)
+    Ok(all_rows(alloc, source, needed, &bytes)?)
 }
 
-/// The rows of an input, of which so many are needed.
+/// The rows of an input, of which so many are needed, if not all.
 pub(crate) fn read_heads<R: Read + Drop>(
     alloc: Global,
     source: &Source,
-    limit: usize,
+    needed: Option<usize>,
     pieces: &mut Pieces<R>,
 ) -> Result<Vec<TextRow>, RunFault>
-    ensures rows { IfOk result (λ rows. IfSome (R.remaining pieces.old.input) (λ bytes. AreRows (Some limit) source.now bytes (map fields_of rows.items))) }
-    ensures cause { IfErr result (λ fault. IfSome (R.remaining pieces.old.input) (λ bytes. LacksInput (Some limit) source.now bytes fault)) }
+    ensures rows { IfOk result (λ rows. IfSome (R.remaining pieces.old.input) (λ bytes. AreRows needed source.now bytes (map fields_of rows.items))) }
+    ensures cause { IfErr result (λ fault. IfSome (R.remaining pieces.old.input) (λ bytes. LacksInput needed source.now bytes fault)) }
     ensures unwritten { IfErr result (λ fault. write_part fault ≡ None) }
     ensures noted { ReportsRead (read_failure pieces.new) result }
 {
     let front = pieces.read_front(alloc, source)?;
     if source.is_database(&front) {
-        return whole_rows(alloc, source, front, pieces);
+        return whole_rows(alloc, source, needed, front, pieces);
     }
     let format = format_streamed(source.known(), &front);
     if !format.is_separated() {
-        return whole_rows(alloc, source, front, pieces);
+        return whole_rows(alloc, source, needed, front, pieces);
     }
-    first_rows(alloc, format, limit, content_of(format, &front), pieces)
+    let limit = needed.unwrap_or(usize::MAX);
+    let rows = first_rows(alloc, format, limit, content_of(format, &front), pieces)?;
+    if rows.len() == usize::MAX {
+        return Err(RunFault::Input(InputFault::Memory));
+    }
+    Ok(rows)
 }

@@ -5,7 +5,9 @@ ghost use Rattle.csv.specs.Records.{fields_of};
 ghost use Rattle.ruled_json.specs.Rows.{rules_of};
 ghost use Rattle.ruled_io.specs.Faults.{Tells};
 ghost use Rattle.ruled_io.specs.Input.{format_fault, input_fault, rows_in, rows_of};
+ghost use Rattle.ruled_io.specs.Requests.{holds_database};
 ghost use Rattle.ruled_io.specs.Runs.{AreRows, LacksRows};
+ghost use Rattle.ruled_io.specs.Steps.{limit_of_whole};
 
 use crate::database::asked_rows;
 use crate::fault::InputFault;
@@ -47,17 +49,19 @@ pub(crate) fn rows_in(
     rows_of(alloc, format, members, content_of(format, bytes))
 }
 
-/// The rows of an input of these bytes, of which the first is row 0, or why there are none.
+/// The rows of an input of these bytes, of which the first is row 0, or why there are none. Of a table of a database, so
+/// many are needed, if not all.
 pub(crate) fn all_rows(
     alloc: Global,
     source: &Source,
+    needed: Option<usize>,
     bytes: &[u8],
 ) -> Result<Vec<TextRow>, InputFault>
-    ensures rows { IfOk result (λ rows. AreRows None source.now bytes.now (map fields_of rows.items)) }
-    ensures cause { IfErr result (LacksRows None source.now bytes.now) }
+    ensures rows { IfOk result (λ rows. AreRows (limit_of_whole (holds_database source.now bytes.now) needed) source.now bytes.now (map fields_of rows.items)) }
+    ensures cause { IfErr result (LacksRows (limit_of_whole (holds_database source.now bytes.now) needed) source.now bytes.now) }
 {
     if source.is_database(bytes) {
-        return asked_rows(alloc, source, bytes);
+        return asked_rows(alloc, source, needed, bytes);
     }
     let plain = MemberRules::new(alloc);
     rows_in(alloc, source.known(), source.members_or(&plain), bytes)

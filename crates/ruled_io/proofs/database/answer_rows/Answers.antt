@@ -1,4 +1,4 @@
-use Rattle.std.proofs.Common.{ℕ, List, Some, Option, subst}
+use Rattle.std.proofs.Common.{ℕ, List, None, Some, Option, subst}
 use Rattle.ruled_sql.specs.Answers.{LacksRows}
 use Rattle.ruled_io.specs.Input.{LacksAnswer, LacksAnswerOf}
 use Rattle.ruled_io.specs.declared.formats.Known.{Known}
@@ -14,4 +14,4 @@ returns-in_err-query_rows-in-None-clause-cause c =
     let lacks : LacksAnswer (Some (Select query)) bytes found =
     subst (λ (it : Option Known). LacksAnswerOf it query bytes found) c.in-None.ensures
     (subst (λ (text : List ℕ). LacksRows bytes text query.steps found) c.as_str-text.ensures.value c.in_err-query_rows-in-None.ensures.fault) in
-    of_query (Some (Select query)) bytes found c.from_residual.result lacks c.from_residual.ensures.1
+    of_query None (Some (Select query)) bytes found c.from_residual.result lacks c.from_residual.ensures.1
