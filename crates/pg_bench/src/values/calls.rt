@@ -308,6 +308,22 @@ fn panel_rows<A: Allocator + Copy>(
         .with_span_crossings(alloc, Borders::modern())
 }
 
+// The table with these inner lines, and with a frame from one cell to another.
+fn framed<A: Allocator + Copy>(
+    table: Table<&'static str, A>,
+    inner: Inner,
+    corners: [usize; 4],
+) -> Result<Table<&'static str, A>, TableFault> {
+    let border = Border::full('━', '━', '┃', '┃', '┏', '┓', '┗', '┛');
+    let (from, to) = (
+        Position::new(corners[0], corners[1]),
+        Position::new(corners[2], corners[3]),
+    );
+    table
+        .with_borders(borders_with(inner))
+        .with_frame(from, to, border)
+}
+
 // The table behind the call that changes it.
 fn changed<A: Allocator + Copy>(
     alloc: A,
@@ -335,13 +351,7 @@ fn changed<A: Allocator + Copy>(
         Call::PanelRows => panel_rows(alloc, table),
         Call::Numbers => table.with_numbers_right(),
         Call::Caption(caption) => table.with_caption(alloc, caption, AlignmentHorizontal::Right),
-        Call::Framed(inner, [top, left, bottom, right]) => table
-            .with_borders(borders_with(inner))
-            .with_frame(
-                Position::new(top, left),
-                Position::new(bottom, right),
-                Border::full('━', '━', '┃', '┃', '┏', '┓', '┗', '┛'),
-            ),
+        Call::Framed(inner, corners) => framed(table, inner, corners),
         Call::ColumnLine => table.with_column_line(1, Borders::extended()),
     }
 }
