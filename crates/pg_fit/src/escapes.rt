@@ -10,8 +10,10 @@ use std::alloc::{AllocError, Allocator};
 pub(crate) enum Reading {
     /// Shows it.
     Shown,
-    /// Reads it as a part of an escape sequence.
+    /// Reads it as what an escape begins.
     Escaped,
+    /// Reads it as the rest of a short sequence, such as the choice of a character set.
+    Short,
     /// Reads it as a part of a control sequence (CSI), such as a colour.
     Control,
     /// Reads it as a part of a command (OSC), such as a link or a title.
@@ -34,7 +36,7 @@ impl Reading {
             (_, '\u{1b}') => Reading::Escaped,
             (_, '\n') => Reading::Shown,
             (Reading::Escaped, '[') => Reading::Control,
-            (Reading::Escaped, ' '..='/') => Reading::Escaped,
+            (Reading::Escaped | Reading::Short, ' '..='/') => Reading::Short,
             (Reading::Escaped, _) if begins_command(c) => Reading::Command,
             (Reading::Control, ' '..='?') => Reading::Control,
             (Reading::Command, '\u{7}' | '\u{9c}') => Reading::Shown,
@@ -50,7 +52,7 @@ impl Reading {
         match (self, c) {
             (_, '\u{1b}') => false,
             (_, '\n') | (Reading::Shown, _) => true,
-            (Reading::Escaped | Reading::Control, _) => !(' '..='~').contains(&c),
+            (Reading::Escaped | Reading::Short | Reading::Control, _) => !(' '..='~').contains(&c),
             (Reading::Command, _) => false,
         }
     }
