@@ -82,6 +82,11 @@ repeated-front c n k block few is =
     ∙ ap (λ x. take (length (repeated c n)) x) (is ∙ repeated-add c n (k - n) all)
     ∙ take-append_seam (repeated c n) (repeated c (k - n))
 
+-- the bytes of the glyph │
+pub encode-vertical : (c : ℕ) → c ≡ 9474 → encode_utf8 c ≡ 226 ∷ 148 ∷ 130 ∷ []
+unfolding lib.Utf8.encode
+encode-vertical c is = ap encode_utf8 is
+
 -- ---- the text of pieces: of a fill, of no pieces, of some and of one more
 
 pub written-nil : written [] ≡ []

@@ -1,5 +1,5 @@
 -- Sets of lemmas that attributes of functions hand to the prover.
-use Rattle.pg_picture.proofs.PiecesOfLines.{repeated-zero, repeated-one, repeated-add, written-side_blank, written-side_filled, indent-plain, indent-colored, lent-color, written-glyph_piece}
+use Rattle.pg_picture.proofs.PiecesOfLines.{repeated-zero, repeated-one, repeated-add, encode-vertical, written-side_blank, written-side_filled, indent-plain, indent-colored, lent-color, written-glyph_piece}
 use Rattle.pg_picture.proofs.PlacesOfTexts.{cell_fits-width, facts_of-single, widest-untrimmed, lines_above-le, length-shown}
 use Rattle.pg_layout.proofs.TextLines.{lines_of-one, first_line_of-one, width_of-plain, text_width_of-plain, feed_place-plain}
 use Rattle.pg_picture.proofs.FittingTables.{length-shown-trimmed}
@@ -8,6 +8,9 @@ use Rattle.std.proofs.lemmas.Str.{IsUtf8-from_is_utf8}
 
 -- no character, one, and so many more
 pub ruleset repeated_texts = (repeated-zero, repeated-one, repeated-add)
+
+-- the bytes of glyphs
+pub ruleset bytes_of_glyphs = (encode-vertical)
 
 -- the side margin of a line
 pub ruleset side_texts = (written-side_blank, written-side_filled)

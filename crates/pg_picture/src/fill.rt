@@ -32,6 +32,22 @@ pub fn push_text<A: Allocator>(buf: &mut String<A>, text: &str) -> Result<(), Al
 pub fn push_char<A: Allocator>(buf: &mut String<A>, c: char) -> Result<(), AllocError>
     ensures { Appends buf.old buf.new result (encode_utf8 c) }
 {
+    if c.is_ascii() {
+        return buf.push(c);
+    }
+    push_wide(buf, c)
+}
+
+// Most glyphs that are pushed one by one are this vertical, whose bytes needn't be computed. It is out of
+// line, so that the code of tables without glyphs keeps more in registers.
+#[inline(never)]
+#[tactic(auto, using(crate::proofs::Rulesets::bytes_of_glyphs))]
+fn push_wide<A: Allocator>(buf: &mut String<A>, c: char) -> Result<(), AllocError>
+    ensures { Appends buf.old buf.new result (encode_utf8 c) }
+{
+    if c == '│' {
+        return push_text(buf, "│");
+    }
     buf.push(c)
 }
 
