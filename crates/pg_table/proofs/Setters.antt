@@ -1,26 +1,39 @@
 -- What a setter by value has from the one by reference, cells that get a colour, and frames that are drawn place by place.
 use Rattle.std.proofs.Common.{◌≡◌, refl, sym, subst, Result, Ok, Err, IfOk, IsOk, OnOk, ◌==◌, ◌+◌, ◌&&◌, ◌||◌, ℕ, Bool, List, nat_lt, inl, inr, arith, ◌<◌, ◌≤◌, ◌^◌, ◌-◌, true, false, not, ◌∙◌, ap, Option, Some, None, if◌then◌else◌}
 use Rattle.std.proofs.lemmas.Bool.{false≢true, cases_Bool, or_parts}
-use Rattle.std.specs.Prelude.{[], ◌∷◌, is_some, nat_le}
-use Rattle.std.specs.List.{fold}
+use Rattle.std.specs.Prelude.{[], ◌∷◌, ◌++◌, is_some, length, map, max, min, nat_le, unwrap_or}
+use Rattle.std.specs.List.{fold, range_with_len}
+use Rattle.std.proofs.lemmas.List.FromFn.{map-range_with_len_more}
 use Rattle.std.proofs.lemmas.Bool.Decides.{nat_tests}
 use Rattle.pg_layout.specs.declared.position.Position.{Position}
 use Rattle.pg_layout.specs.Colors.{Color}
-use Rattle.pg_config.specs.Config.{Config, has_horizontal, has_vertical, get_horizontal, get_vertical, missing_if}
+use Rattle.pg_layout.specs.declared.alignment.AlignmentHorizontal.{AlignmentHorizontal}
+use Rattle.pg_layout.specs.declared.alignment.AlignmentHorizontal.TheVariants.{Right}
+use Rattle.pg_layout.specs.declared.borders.Borders.{Borders}
+use Rattle.pg_layout.specs.declared.position.Entity.TheVariants.{Cell, Column}
+use Rattle.pg_layout.specs.declared.sides.Indent.{Indent}
+use Rattle.pg_layout.specs.declared.sides.Sides.{Sides}
+use Rattle.pg_layout.specs.Records.{text_at}
+use Rattle.pg_layout.specs.Text.{Text, greatest}
+use Rattle.pg_config.specs.Config.{Config, has_horizontal, has_vertical, get_horizontal, get_padding, get_vertical, missing_if, no_indents}
+use Rattle.pg_config.specs.Settings.{Settings, with_setting}
+use Rattle.pg_config.proofs.SettingsLaw.{setting_of-with_setting}
+use Rattle.pg_table.specs.Numbers.{lacking, own_extent}
+use Rattle.pg_table.specs.OwnRows.{is_in_column, longest_rest, widened_right, AreWidened, HasPointsAligned}
 use Rattle.pg_table.specs.Coloring.{AreColored, is_striped, with_stripe}
 use Rattle.pg_table.specs.Even.{IsNarrowLook}
 use Rattle.pg_table.proofs.StraightTables.{told-ground}
 use Rattle.std.specs.Option.{option_or}
 use Rattle.pg_layout.specs.declared.position.ColumnPlace.{ColumnPlace}
-use Rattle.pg_layout.specs.Borders.{no_border, vertical_glyph, horizontal_glyph}
+use Rattle.pg_layout.specs.Borders.{ends, no_border, has_bottom, has_left, has_right, has_top, vertical_glyph, horizontal_glyph}
 use Rattle.pg_layout.specs.Keys.{by_place, by_columns, column_place, in_row, in_column}
 use Rattle.pg_layout.specs.Places.{same, with_some, has_key}
-use Rattle.pg_layout.specs.Position.{at}
+use Rattle.pg_layout.specs.Position.{at, holds}
 use Rattle.pg_layout.proofs.KeyedPlaces.{place-laws, columns-laws}
 use Rattle.pg_config.specs.Overrides.{Overrides, with_border, has_crossing, horizontal_override, vertical_override, crossing_override, overrides_row, overrides_column}
 use Rattle.pg_config.proofs.Lookups.{value_at-with_some, any-with_some}
-use Rattle.pg_table.specs.Inside.{frame_border, is_of_frame, is_on_line, along, place_on, IsDrawn}
-use Rattle.pg_table.specs.Panels.{frame_crossing, frame_corner, frame_horizontal, frame_vertical, along_row, along_column, is_on_column, is_on_row, IsFramed}
+use Rattle.pg_table.specs.Inside.{column_frame, frame_border, is_of_frame, is_on_line, along, place_on, IsDrawn}
+use Rattle.pg_table.specs.Panels.{frame_crossing, frame_corner, frame_horizontal, frame_vertical, along_row, along_column, column_crossing, column_vertical, is_on_column, is_on_row, lacks_row, HasColumnLine, IsFramed}
 use Rattle.pg_table.specs.declared.sizes.Axis.{Axis}
 use Rattle.pg_table.specs.declared.sizes.Axis.TheVariants.{Columns, Rows}
 use Rattle.pg_table.specs.declared.table.lines.Frame.{Frame}
@@ -70,6 +83,86 @@ module _ (first step : ℕ) (color : Color) where
   pub stripes-narrow : (rows : List ℕ) (config : Config) → IsNarrowLook config → IsNarrowLook (fold (with_stripe first step color) config rows)
   stripes-narrow [] config look = look
   stripes-narrow (r ∷ rows) config look = stripes-narrow rows (with_stripe first step color config r) (stripe-narrow config r look)
+
+-- ---- cells whose padding grows
+
+module _ (config : Config) (q : Position) (n : ℕ) where
+  abbrev grown : Sides Indent
+  grown = widened_right n (get_padding config q)
+
+  -- by a setting of the cell
+  padding-set : (p : Position) → get_padding (record config { padding = with_setting (Cell q.row q.col) grown config.padding }) p ≡ (if holds (Cell q.row q.col) p then grown else get_padding config p)
+  unfolding get_padding
+  padding-set p =
+      ap (λ o. unwrap_or o no_indents) (setting_of-with_setting (Cell q.row q.col) grown config.padding p)
+      ∙ elim (cases_Bool ((p.row == q.row) && (p.col == q.col))) [ inl y ↦ rw y refl | inr o ↦ rw o refl ]
+
+  pub widened-set : (new : Config) → new ≡ record config { padding = with_setting (Cell q.row q.col) grown config.padding } → (p : Position) → get_padding new p ≡ (if holds (Cell q.row q.col) p then grown else get_padding config p)
+  widened-set new is p = ap (λ (k : Config). get_padding k p) is ∙ padding-set p
+
+  -- by none
+  pub widened-none : min ((get_padding config q).right.size + n) (2 ^ 64 - 1) ≡ (get_padding config q).right.size → (p : Position) → get_padding config p ≡ (if holds (Cell q.row q.col) p then grown else get_padding config p)
+  widened-none stays p =
+      elim (cases_Bool ((p.row == q.row) && (p.col == q.col))) [
+        | inr o ↦ rw o refl
+        | inl y ↦
+            let there : same by_place q p ≡ true = grind (arith, nat_tests, y) in
+            let s : Sides Indent = get_padding config q in
+            rw y (ap (λ (k : Position). get_padding config k) (sym (place-laws.same_is q p there)) ∙ ap (λ (k : ℕ). let t : Sides Indent = record s { right = record s.right { size = k } } in t) (sym stays))
+      ]
+
+padding-beside : (config : Config) (across : Settings AlignmentHorizontal) (p : Position) → get_padding (record config { alignment_horizontal = across }) p ≡ get_padding config p
+unfolding get_padding
+padding-beside config across p = refl
+
+greatest-one : (ns : List ℕ) (n : ℕ) → greatest (ns ++ n ∷ []) ≡ max (greatest ns) n
+greatest-one [] n = omega arith
+greatest-one (m ∷ ms) n = let ih = greatest-one ms n in omega (arith, ih)
+
+module _ (texts : List (List Text)) (from column : ℕ) where
+  -- none yet
+  pub widened-first : (config : Config) → AreWidened texts from column from config config
+  widened-first config p = let none : is_in_column column from from p ≡ false = grind (arith, nat_tests) in rw none refl
+
+  -- one row more
+  pub widened-more : (row : ℕ) (old between new : Config) → from ≤ row → AreWidened texts from column row old between → (q : Position) → q ≡ at row column → (n : ℕ) → n ≡ lacking (longest_rest texts from column) (text_at texts q)
+      → ((p : Position) → get_padding new p ≡ (if holds (Cell q.row q.col) p then widened_right n (get_padding between q) else get_padding between p)) → AreWidened texts from column (row + 1) old new
+  widened-more row old between new low before q here n is after p =
+      let k : Position = at row column in
+      let lacks : n ≡ lacking (longest_rest texts from column) (text_at texts k) = is ∙ ap (λ (p : Position). lacking (longest_rest texts from column) (text_at texts p)) here in
+      let own = rw (here, lacks) at after in
+      elim (cases_Bool ((p.row == row) && (p.col == column))) [
+        | inr o ↦
+            let same_test : is_in_column column from (row + 1) p ≡ is_in_column column from row p = grind (arith, nat_tests, o) in
+            own p ∙ rw (o, same_test) (before p)
+        | inl y ↦
+            let there : same by_place k p ≡ true = grind (arith, nat_tests, y) in
+            let on : ((k.row == row) && (k.col == column)) ≡ true = grind (arith, nat_tests) in
+            let none : is_in_column column from row k ≡ false = grind (arith, nat_tests) in
+            let inside : is_in_column column from (row + 1) k ≡ true = grind (arith, nat_tests, low) in
+            subst (λ (p : Position). get_padding new p ≡ (if is_in_column column from (row + 1) p then widened_right (lacking (longest_rest texts from column) (text_at texts p)) (get_padding old p) else get_padding old p))
+            (place-laws.same_is k p there) (own k ∙ rw (on, inside) (ap (λ (s : Sides Indent). widened_right (lacking (longest_rest texts from column) (text_at texts k)) s) (before k ∙ rw none refl)))
+      ]
+
+  -- all rows
+  pub points-aligned : (to : ℕ) (old between new : Config) → length texts ≤ to → to ≤ max from (length texts) → AreWidened texts from column to old between → between ≡ record old { padding = between.padding }
+      → new ≡ record between { alignment_horizontal = with_setting (Column column) Right between.alignment_horizontal } → HasPointsAligned texts from column old new
+  points-aligned to old between new past bound widened others is = record {
+    paddings = λ p.
+        let same_test : is_in_column column from (length texts) p ≡ is_in_column column from to p = grind (arith, nat_tests, past, bound) in
+        ap (λ (k : Config). get_padding k p) is ∙ padding-beside between _ p ∙ rw same_test (widened p);
+    others =
+        is ∙ ap (λ (k : Config). let told : Config = record k { alignment_horizontal = with_setting (Column column) Right k.alignment_horizontal } in told) others
+        ∙ ap (λ s. let told : Config = record old { padding = s; alignment_horizontal = with_setting (Column column) Right old.alignment_horizontal } in told) (sym (ap (λ (k : Config). k.padding) is));
+  }
+
+  -- the longest rest, one row more
+  pub rest-more : (row longest : ℕ) → from ≤ row → longest ≡ greatest (map (λ r. (own_extent (text_at texts (at r column))).rest) (range_with_len from (row - from)))
+      → max longest (own_extent (text_at texts (at row column))).rest ≡ greatest (map (λ r. (own_extent (text_at texts (at r column))).rest) (range_with_len from ((row + 1) - from)))
+  rest-more row longest low is =
+      let f : ℕ → ℕ = λ r. (own_extent (text_at texts (at r column))).rest in
+      let long : (row + 1) - from ≡ (row - from) + 1 = omega (arith, low) in
+      ap (λ n. max n (f row)) is ∙ sym (rw long (ap greatest (map-range_with_len_more f from (row - from) row (omega (arith, low))) ∙ greatest-one (map f (range_with_len from (row - from))) (f row)))
 
 -- ---- a border of three places
 
@@ -387,3 +480,126 @@ module _ (f : Frame) (a b c d e : Config) where
       three : (o x y z : Bool) → (o || ((x || y) && z)) ≡ ((o || (x && z)) || (y && z))
       three true x y z = refl
       three false x y z = both x y z
+
+-- ---- a frame with a left side alone is a line between columns
+
+and-never : (a b : Bool) → b ≡ false → (a && b) ≡ false
+and-never true b none = none
+and-never false b none = refl
+
+if-same : (b : Bool) (o : Option ℕ) → (if b then o else o) ≡ o
+if-same true o = refl
+if-same false o = refl
+
+module _ (c : ℕ) (b : Borders ℕ) (rows columns : ℕ) (config : Config) (p : Position) where
+  abbrev f : Frame
+  f = column_frame c b rows columns config
+
+  column-horizontal : frame_horizontal f p ≡ None
+  column-horizontal = let away : (nat_le f.first.col p.col && nat_lt p.col f.last.col) ≡ false = grind (arith, nat_tests) in rw away refl
+
+  column-vertical : frame_vertical f p ≡ column_vertical c b rows columns p
+  column-vertical =
+      let past : (nat_le f.first.row p.row && nat_lt p.row f.last.row) ≡ nat_lt p.row rows = grind (arith, nat_tests) in
+      elim (cases_Bool (nat_lt 0 c && nat_lt c columns)) [
+        | inl inner ↦
+            let line : min columns c ≡ c = grind (arith, nat_tests, inner) in
+            rw (past, inner, line) (elim (cases_Bool (p.col == c)) [
+              | inl on ↦ rw on refl
+              | inr off ↦ rw off (if-same (nat_lt p.row rows) None)
+            ])
+        | inr outer ↦ rw (past, outer) (elim (cases_Bool (p.col == min columns c)) [
+          | inl on ↦ rw on (if-same (nat_lt p.row rows) None)
+          | inr off ↦ rw off (if-same (nat_lt p.row rows) None)
+        ])
+      ]
+
+  -- no row line goes on beyond it
+  column-row : along_row f config p ≡ None
+  column-row =
+      let away : (nat_lt f.first.col p.col && nat_lt p.col f.last.col) ≡ false = grind (arith, nat_tests) in
+      let top : f.adds.top ≡ false = and-never (has_top f.glyphs) (lacks_row config 0 rows) refl in
+      let low : nat_lt rows rows ≡ false = grind (arith, nat_tests) in
+      let bottom : f.adds.bottom ≡ false = and-never (has_bottom f.glyphs) (lacks_row config rows rows) (rw low (rw (and-never (nat_lt 0 rows) false refl) refl)) in
+      rw (away, top, bottom) (elim (cases_Bool (p.row == 0)) [ inl y ↦ rw y refl | inr n ↦ rw n refl ])
+
+  -- where there is no such line, it has no crossing
+  outer-corner : (nat_lt 0 c && nat_lt c columns) ≡ false → frame_corner f p ≡ None
+  outer-corner outer =
+      rw outer (elim (cases_Bool (p.row == 0)) [
+        | inl y ↦ rw y (if-same (p.col == min columns c) None)
+        | inr n ↦ rw n (if-same (p.col == min columns c) None)
+      ])
+
+  outer-column : (nat_lt 0 c && nat_lt c columns) ≡ false → along_column f config p ≡ None
+  unfolding has_left has_right
+  outer-column outer =
+      rw outer (elim (cases_Bool (nat_lt 0 p.row && nat_lt p.row rows)) [
+        | inl y ↦ rw y (if-same (p.col == min columns c) None)
+        | inr n ↦ rw n (elim (cases_Bool (p.col == min columns c)) [ inl on ↦ rw on refl | inr off ↦ rw off refl ])
+      ])
+
+  -- and where there is one, it has one with each row line
+  inner-crossing : (nat_lt 0 c && nat_lt c columns) ≡ true → (p.col == c) ≡ true → nat_le p.row rows ≡ true
+      → (if is_on_row f p then frame_corner f p else if has_horizontal config p.row rows then along_column f config p else None) ≡ (if has_horizontal config p.row rows then ends b.top_intersection b.intersection b.bottom_intersection p.row rows else None)
+  inner-crossing inner on within =
+      let line : min columns c ≡ c = grind (arith, nat_tests, inner) in
+      elim (cases_Bool (p.row == 0)) [
+        | inl first ↦
+            let zero : p.row ≡ 0 = grind (arith, nat_tests, first) in
+            let there : has_horizontal config p.row rows ≡ has_horizontal config 0 rows = ap (λ (r : ℕ). has_horizontal config r rows) zero in
+            rw (inner, line, first, on, there) refl
+        | inr later ↦ elim (cases_Bool (p.row == rows)) [
+          | inl last ↦
+              let end : p.row ≡ rows = grind (arith, nat_tests, last) in
+              let there : has_horizontal config p.row rows ≡ has_horizontal config rows rows = ap (λ (r : ℕ). has_horizontal config r rows) end in
+              rw (inner, line, later, last, on, there) refl
+          | inr between ↦
+              let low : nat_lt 0 p.row ≡ true = grind (arith, nat_tests, later) in
+              let high : nat_lt p.row rows ≡ true = grind (arith, nat_tests, within, between) in
+              rw (inner, line, later, between, on, low, high) refl
+        ]
+      ]
+
+  column-crossing : frame_crossing f config p ≡ column_crossing c b rows columns config p
+  column-crossing =
+      crossing-parts (nat_le p.row rows && nat_le p.col columns) (is_on_row f p) (is_on_column f p) (has_vertical config p.col columns) (has_horizontal config p.row rows) (frame_corner f p) (along_row f config p) (along_column f config p) column-row
+      ∙ elim (cases_Bool (nat_lt 0 c && nat_lt c columns)) [
+        | inr outer ↦ only-none (nat_le p.row rows && nat_le p.col columns) (is_on_column f p) (is_on_row f p) (has_horizontal config p.row rows) _ _ (outer-corner outer) (outer-column outer) ∙ rw outer refl
+        | inl inner ↦
+            let line : min columns c ≡ c = grind (arith, nat_tests, inner) in
+            elim (cases_Bool (p.col == c)) [
+              | inr off ↦
+                  let out : is_on_column f p ≡ false = rw (line, off) refl in
+                  let none : ((nat_le p.row rows && nat_le p.col columns) && is_on_column f p) ≡ false = and-never _ _ out in
+                  rw none (rw (inner, off) refl)
+              | inl on ↦
+                  let column : is_on_column f p ≡ true = rw (line, on) refl in
+                  let near : nat_le p.col columns ≡ true = grind (arith, nat_tests, inner, on) in
+                  elim (cases_Bool (nat_le p.row rows)) [
+                    | inr far ↦ rw (far, inner, on) refl
+                    | inl within ↦ rw (column, near, within) (inner-crossing inner on within ∙ rw (inner, on) refl)
+                  ]
+            ]
+      ]
+    where
+      crossing-parts : (inside row column v h : Bool) (corner along beside : Option ℕ) → along ≡ None
+          → (if not inside then None else if row && column then corner else if row then (if v then along else None) else if column then (if h then beside else None) else None)
+          ≡ (if inside && column then (if row then corner else if h then beside else None) else None)
+      crossing-parts false row column v h corner along beside none = refl
+      crossing-parts true true true v h corner along beside none = refl
+      crossing-parts true true false true h corner along beside none = none
+      crossing-parts true true false false h corner along beside none = refl
+      crossing-parts true false true v h corner along beside none = refl
+      crossing-parts true false false v h corner along beside none = refl
+
+      only-none : (inside column row h : Bool) (corner beside : Option ℕ) → corner ≡ None → beside ≡ None → (if inside && column then (if row then corner else if h then beside else None) else None) ≡ None
+      only-none inside column row h corner beside one two = rw (one, two, if-same h None, if-same row None) (if-same (inside && column) None)
+
+pub column-drawn : (c : ℕ) (b : Borders ℕ) (rows columns : ℕ) (old new : Config) → IsFramed (column_frame c b rows columns old) old new → HasColumnLine c b rows columns old new
+column-drawn c b rows columns old new framed = record {
+  horizontals = λ p. framed.horizontals p ∙ ap (λ o. option_or o (horizontal_override old.overrides p)) (column-horizontal c b rows columns old p);
+  verticals = λ p. framed.verticals p ∙ ap (λ o. option_or o (vertical_override old.overrides p)) (column-vertical c b rows columns old p);
+  crossings = λ p. framed.crossings p ∙ ap (λ o. option_or o (crossing_override old.overrides p)) (column-crossing c b rows columns old p);
+  others = framed.others;
+}

@@ -28,8 +28,10 @@ use Rattle.std.proofs.lemmas.List.{length-map}
 use Rattle.std.proofs.lemmas.Str.{chars-nil}
 use Rattle.pg_layout.specs.declared.alignment.AlignmentHorizontal.{AlignmentHorizontal}
 use Rattle.pg_config.specs.LineGlyphs.{with_line_glyphs}
-use Rattle.pg_table.specs.OwnRows.{own_sizes, spaced_config, titled, titled_at}
-use Rattle.pg_table.specs.Panels.{with_title, with_title_at, with_inner_line, along_column, along_row, borders_left_of, borders_round, column_borders, frame_borders}
+use Rattle.pg_table.specs.Numbers.{lacking}
+use Rattle.pg_table.specs.OwnRows.{is_in_column, longest_rest, own_sizes, spaced_config, titled, titled_at, widened_right, HasPointsAligned}
+use Rattle.pg_table.specs.Panels.{with_title, with_title_at, with_inner_line, along_column, along_row, borders_round, column_borders, frame_borders}
+use Rattle.pg_table.specs.Inside.{borders_left_of}
 use Rattle.pg_table.specs.Panels.{frame_corner, frame_crossing, frame_horizontal, frame_vertical, is_on_column, is_on_row, IsFramed}
 use Rattle.pg_table.specs.declared.table.lines.Frame.{Frame}
 use Rattle.std.specs.List.{list_all, range_with_len}
@@ -37,7 +39,9 @@ use Rattle.unicode_width.proofs.Computing.{unicode_width}
 use Rattle.pg_layout.specs.declared.borders.Border.{Border}
 use Rattle.pg_layout.specs.declared.borders.Borders.{Borders}
 use Rattle.pg_layout.specs.declared.borders.HorizontalLine.{HorizontalLine}
-use Rattle.pg_layout.specs.declared.position.Entity.TheVariants.{Global}
+use Rattle.pg_layout.specs.Records.{text_at}
+use Rattle.pg_layout.specs.declared.alignment.AlignmentHorizontal.TheVariants.{Right}
+use Rattle.pg_layout.specs.declared.position.Entity.TheVariants.{Column, Global}
 use Rattle.pg_layout.specs.declared.sides.Indent.{Indent}
 use Rattle.pg_layout.specs.declared.sides.Sides.{Sides}
 use Rattle.pg_layout.specs.Keys.{by_place}
@@ -351,6 +355,24 @@ module _ (config : Config) (look : IsNarrowLook config) where
   pub told-alignment : (across : Settings AlignmentHorizontal) → IsNarrowLook (record config { alignment_horizontal = across })
   told-alignment across = record { lines = lines-beside config look.lines config.padding across; fills = fills-alignment across; margins = look.margins }
 
+-- ---- paddings that are wider at the right, of a column at the right
+
+sides-widened : (b : Bool) (n : ℕ) (s t : Sides Indent) → t ≡ (if b then widened_right n s else s) → HasNarrowSides s → HasNarrowSides t
+sides-widened true n s t is h = rw is (record { left = h.left; right = h.right; top = h.top; bottom = h.bottom })
+sides-widened false n s t is h = rw is h
+
+module _ (config : Config) (look : IsNarrowLook config) (texts : List (List Text)) (from column : ℕ) (new : Config) (points : HasPointsAligned texts from column config new) where
+  fills-points : (p : Position) → HasNarrowFills (style_at (record config { padding = new.padding; alignment_horizontal = with_setting (Column column) Right config.alignment_horizontal }) p)
+  unfolding style_at get_padding get_justification
+  fills-points p =
+      let before = look.fills p in
+      let own : HasNarrowSides (get_padding config p) = record { left = before.left; right = before.right; top = before.top; bottom = before.bottom } in
+      let after : HasNarrowSides (get_padding new p) = sides-widened (is_in_column column from (length texts) p) (lacking (longest_rest texts from column) (text_at texts p)) (get_padding config p) (get_padding new p) (points.paddings p) own in
+      record { left = after.left; right = after.right; top = after.top; bottom = after.bottom; justification = before.justification }
+
+  pub told-points : IsNarrowLook new
+  told-points = subst (λ (k : Config). IsNarrowLook k) (sym points.others) (record { lines = lines-beside config look.lines new.padding (with_setting (Column column) Right config.alignment_horizontal); fills = fills-points; margins = look.margins })
+
 -- ---- colours of paddings, and of the room beside texts
 
 module _ (config : Config) (look : IsNarrowLook config) where
@@ -477,8 +499,27 @@ module _ (config : Config) (look : IsNarrowLook config) (f : Frame) (h : are_lin
 pub glyphs-round : (b : Border ℕ) (first last : Position) → are_line_glyphs (frame_borders b) ≡ true → are_line_glyphs (borders_round b first last) ≡ true
 glyphs-round b first last h = elim (cases_Bool (nat_lt first.row last.row && nat_lt first.col last.col)) [ inl y ↦ rw y h | inr n ↦ rw n refl ]
 
-pub glyphs-left_of : (b : Borders ℕ) (c columns : ℕ) → are_line_glyphs (column_borders b) ≡ true → are_line_glyphs (borders_left_of b c columns) ≡ true
-glyphs-left_of b c columns h = elim (cases_Bool (nat_lt 0 c && nat_lt c columns)) [ inl y ↦ rw y h | inr n ↦ rw n refl ]
+-- an end that is left out stays no wider
+ends-narrow : (v t m d x y : Bool) → ((v && true) && ((t && true) && ((m && true) && (d && true)))) ≡ true → ((v && true) && (((if x then t else true) && true) && ((m && true) && ((if y then d else true) && true)))) ≡ true
+ends-narrow true true true true true true h = refl
+ends-narrow true true true true true false h = refl
+ends-narrow true true true true false true h = refl
+ends-narrow true true true true false false h = refl
+ends-narrow false t m d x y h = absurd (false≢true h)
+ends-narrow true false m d x y h = absurd (false≢true h)
+ends-narrow true true false d x y h = absurd (false≢true h)
+ends-narrow true true true false x y h = absurd (false≢true h)
+
+end-narrow : (x : Bool) (o : Option ℕ) → is_line_glyph_if (if x then o else None) ≡ (if x then is_line_glyph_if o else true)
+end-narrow true o = refl
+end-narrow false o = refl
+
+pub glyphs-left_of : (b : Borders ℕ) (c rows columns : ℕ) (config : Config) → are_line_glyphs (column_borders b) ≡ true → are_line_glyphs (borders_left_of b c rows columns config) ≡ true
+glyphs-left_of b c rows columns config h =
+    elim (cases_Bool (nat_lt 0 c && nat_lt c columns)) [
+      | inr n ↦ rw n refl
+      | inl y ↦ rw (y, end-narrow (has_horizontal config 0 rows) b.top_intersection, end-narrow (has_horizontal config rows rows) b.bottom_intersection) (ends-narrow (is_line_glyph_if b.vertical) (is_line_glyph_if b.top_intersection) (is_line_glyph_if b.intersection) (is_line_glyph_if b.bottom_intersection) (has_horizontal config 0 rows) (has_horizontal config rows rows) h)
+    ]
 
 -- what a setting does where memory isn't refused
 pub where-ok : {V E P : Type 0} (r : Result V E) → IsOk r → OnOk r P → P

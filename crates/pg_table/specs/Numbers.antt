@@ -1,9 +1,11 @@
--- What a number is.
-use Rattle.std.specs.Prelude.{ℕ, ◌+◌, ◌==◌, ◌&&◌, ◌||◌, not, Bool, false, List, [], ◌∷◌, length, take, drop, position, nat_eq, Option, Some, None, if◌then◌else◌}
-use Rattle.std.specs.List.{list_all}
+-- What a number is, and its parts.
+use Rattle.std.specs.Prelude.{ℕ, ◌+◌, ◌-◌, ◌==◌, ◌&&◌, ◌||◌, not, Bool, false, List, [], ◌∷◌, length, take, drop, position, nat_eq, Option, Some, None, if◌then◌else◌}
+use Rattle.std.specs.List.{list_all, prefix_len}
 use Rattle.std.specs.Cmp.Lexicographic.{pointwise}
 use Rattle.std.specs.Io.BufRead.{strip_last}
 use Rattle.std.specs.Int.{is_in_range}
+use Rattle.std.specs.Str.{chars}
+use Rattle.pg_table.specs.declared.numbers.Extent.{Extent}
 
 abbrev pub is_digit : ℕ → Bool
 is_digit byte = is_in_range 48 57 byte
@@ -54,3 +56,27 @@ is_blank text = list_all (λ byte. byte == 32) text
 
 abbrev pub is_number_or_blank : List ℕ → Bool
 is_number_or_blank text = is_blank text || is_number text
+
+-- ---- the parts of a number
+
+-- its whole part ends before a point, an exponent or a percent sign
+abbrev pub ends_whole : ℕ → Bool
+ends_whole c = (c == 46) || ((c == 101) || ((c == 69) || (c == 37)))
+
+-- how many characters it has, and how many follow it
+abbrev pub whole_len : List ℕ → ℕ
+whole_len text = prefix_len (λ c. not (ends_whole c)) (chars text)
+
+abbrev pub rest_len : List ℕ → ℕ
+rest_len text = length (chars text) - whole_len text
+
+-- both of a number, and none of another text
+abbrev pub no_extent : Extent
+no_extent = record { whole = 0; rest = 0 }
+
+abbrev pub own_extent : List ℕ → Extent
+own_extent text = if is_number text then record { whole = whole_len text; rest = rest_len text } else no_extent
+
+-- by how many characters a number is shorter behind its whole part than this
+abbrev pub lacking : ℕ → List ℕ → ℕ
+lacking rest text = if is_number text then rest - rest_len text else 0

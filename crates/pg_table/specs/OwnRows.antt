@@ -1,19 +1,20 @@
 -- A table with rows of its own: its sizes, and the tables that its settings make of it.
-use Rattle.std.specs.Prelude.{ℕ, ◌-◌, ◌++◌, ◌∷◌, [], List, map, length, replicate, Option, ◌==◌, ◌&&◌, ◌||◌, ◌≤◌, Bool, nat_lt, if◌then◌else◌}
+use Rattle.std.specs.Prelude.{◌≡◌, ℕ, ◌+◌, ◌-◌, ◌^◌, ◌++◌, ◌∷◌, [], List, map, min, length, replicate, Option, ◌==◌, ◌&&◌, ◌||◌, ◌≤◌, Bool, nat_le, nat_lt, if◌then◌else◌}
 use Rattle.pg_layout.specs.declared.alignment.AlignmentHorizontal.{AlignmentHorizontal}
 use Rattle.pg_layout.specs.declared.alignment.AlignmentHorizontal.TheVariants.{Right}
 use Rattle.pg_layout.specs.declared.borders.Borders.{Borders}
 use Rattle.pg_layout.specs.declared.borders.HorizontalLine.{HorizontalLine}
 use Rattle.pg_layout.specs.declared.position.Entity.{Entity}
 use Rattle.pg_layout.specs.declared.position.Entity.TheVariants.{Column, Global}
+use Rattle.pg_layout.specs.declared.position.Position.{Position}
 use Rattle.pg_layout.specs.declared.sides.Indent.{Indent}
 use Rattle.pg_layout.specs.declared.sides.Sides.{Sides}
 use Rattle.pg_layout.specs.Records.{columns_of, text_at}
 use Rattle.pg_layout.specs.Sides.{spaces}
 use Rattle.pg_layout.specs.Text.{Text, greatest}
-use Rattle.pg_config.specs.Config.{Config, default_config}
+use Rattle.pg_config.specs.Config.{Config, default_config, get_padding}
 use Rattle.pg_config.specs.Settings.{Settings, with_setting}
-use Rattle.pg_table.specs.Numbers.{is_number_or_blank}
+use Rattle.pg_table.specs.Numbers.{is_number_or_blank, lacking, own_extent}
 use Rattle.pg_table.specs.Panels.{panelled, with_span_crossings, with_title, with_title_at}
 use Rattle.pg_table.specs.Natural.{natural_sizes}
 use Rattle.pg_table.specs.Printing.{Parts, sizes_fault, with_header_line}
@@ -102,6 +103,31 @@ with_numbers_right texts columns settings = fold (with_number_right texts) setti
 -- the table with its columns of numbers at the right
 abbrev pub numbered : {T : Type 0} → (T → Text) → Parts T → Parts T
 numbered text t = record t { config = record t.config { alignment_horizontal = with_numbers_right (texts_of text t) (columns_of t.rows) t.config.alignment_horizontal } }
+
+-- ---- a column of numbers whose points are below one another
+
+-- so many columns more at the right, but for what passes 2^64 - 1
+abbrev pub widened_right : ℕ → Sides Indent → Sides Indent
+widened_right n s = record s { right = record s.right { size = min (s.right.size + n) (2 ^ 64 - 1) } }
+
+-- a cell of the column, from one row on and above another
+abbrev pub is_in_column : ℕ → ℕ → ℕ → Position → Bool
+is_in_column column from to p = (p.col == column) && (nat_le from p.row && nat_lt p.row to)
+
+module _ (texts : List (List Text)) (from column : ℕ) where
+  -- the longest rest of its numbers, from this row on
+  abbrev pub longest_rest : ℕ
+  longest_rest = greatest (map (λ r. (own_extent (text_at texts (at r column))).rest) (range_with_len from (length texts - from)))
+
+  -- Each such cell has as many columns more at its right as its number lacks, and any other cell what it had.
+  abbrev pub AreWidened : ℕ → Config → Config → Type 0
+  AreWidened to old new = (p : Position) → get_padding new p
+      ≡ (if is_in_column column from to p then widened_right (lacking longest_rest (text_at texts p)) (get_padding old p) else get_padding old p)
+
+  -- So is each one in the rows of the table, and the column is at the right.
+  pub record HasPointsAligned (old new : Config) : Type 0 where
+    pub paddings : AreWidened (length texts) old new
+    pub others : new ≡ record old { padding = new.padding; alignment_horizontal = with_setting (Column column) Right old.alignment_horizontal }
 
 -- ---- runs of equal texts in a column, each of which becomes one cell
 

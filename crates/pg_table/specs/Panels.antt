@@ -6,7 +6,7 @@ use Rattle.pg_layout.specs.declared.borders.HorizontalLine.{HorizontalLine}
 use Rattle.pg_layout.specs.declared.position.Position.{Position}
 use Rattle.pg_layout.specs.Position.{at}
 use Rattle.pg_layout.specs.Records.{columns_of}
-use Rattle.pg_layout.specs.Borders.{no_borders, has_top, has_bottom, has_left, has_right}
+use Rattle.pg_layout.specs.Borders.{ends, no_borders, has_top, has_bottom, has_left, has_right}
 use Rattle.pg_config.specs.Config.{Config, has_horizontal, has_vertical, get_horizontal, get_vertical}
 use Rattle.pg_config.specs.Overrides.{with_row_line, horizontal_override, vertical_override, crossing_override}
 use Rattle.pg_config.specs.Spans.{with_column_span, with_row_span}
@@ -174,12 +174,15 @@ module _ (f : Frame) where
       else if is_on_column p then (if has_horizontal config p.row f.rows then along_column config p else None)
       else None
 
--- Each place of the frame has its glyph there, and any other what it had.
-pub record IsFramed (f : Frame) (old new : Config) : Type 0 where
-  pub horizontals : (p : Position) → horizontal_override new.overrides p ≡ option_or (frame_horizontal f p) (horizontal_override old.overrides p)
-  pub verticals : (p : Position) → vertical_override new.overrides p ≡ option_or (frame_vertical f p) (vertical_override old.overrides p)
-  pub crossings : (p : Position) → crossing_override new.overrides p ≡ option_or (frame_crossing f old p) (crossing_override old.overrides p)
+-- Each place that has a glyph here has it there, and any other what it had.
+pub record AreDrawn (horizontal vertical crossing : Position → Option ℕ) (old new : Config) : Type 0 where
+  pub horizontals : (p : Position) → horizontal_override new.overrides p ≡ option_or (horizontal p) (horizontal_override old.overrides p)
+  pub verticals : (p : Position) → vertical_override new.overrides p ≡ option_or (vertical p) (vertical_override old.overrides p)
+  pub crossings : (p : Position) → crossing_override new.overrides p ≡ option_or (crossing p) (crossing_override old.overrides p)
   pub others : new ≡ record old { overrides = new.overrides }
+
+abbrev pub IsFramed : Frame → Config → Config → Type 0
+IsFramed f old new = AreDrawn (frame_horizontal f) (frame_vertical f) (frame_crossing f old) old new
 
 -- the frame round the cells from one to another, as far as the table has them; round no cell it has no glyph
 abbrev pub borders_round : Border ℕ → Position → Position → Borders ℕ
@@ -190,11 +193,19 @@ frame_round from to border rows columns config =
     let last : Position = at (min rows (to.row + 1)) (min columns (to.col + 1)) in
     frame_between (borders_round border from last) from last rows columns config
 
--- the line left of column c; one that isn't between two columns has no glyph
-abbrev pub borders_left_of : Borders ℕ → ℕ → ℕ → Borders ℕ
-borders_left_of b c columns = if nat_lt 0 c && nat_lt c columns then column_borders b else no_borders
+module _ (c : ℕ) (b : Borders ℕ) (rows columns : ℕ) where
+  -- the place is on the line left of column c, which is between two columns
+  abbrev pub is_left_of : Position → Bool
+  is_left_of p = (nat_lt 0 c && nat_lt c columns) && (p.col == c)
 
-abbrev pub column_line : ℕ → Borders ℕ → ℕ → ℕ → Config → Frame
-column_line c borders rows columns config =
-    let line : ℕ = min columns c in
-    frame_between (borders_left_of borders c columns) (at 0 line) (at rows line) rows columns config
+  -- its glyph beside each row, and at each crossing with a row line of the table
+  abbrev pub column_vertical : Position → Option ℕ
+  column_vertical p = if is_left_of p && nat_lt p.row rows then b.vertical else None
+
+  abbrev pub column_crossing : Config → Position → Option ℕ
+  column_crossing config p =
+      if is_left_of p && (nat_le p.row rows && has_horizontal config p.row rows)
+      then ends b.top_intersection b.intersection b.bottom_intersection p.row rows else None
+
+  abbrev pub HasColumnLine : Config → Config → Type 0
+  HasColumnLine old new = AreDrawn (λ p. None) column_vertical (column_crossing old) old new

@@ -5,6 +5,15 @@ ghost use Rattle.std.specs.List.{list_all};
 ghost use Rattle.std.specs.Io.BufRead.{strip_last};
 ghost use Rattle.pg_table.specs.Numbers as spec;
 
+/// How many characters a number has in front of its point, and from this on.
+#[derive(Clone, Copy)]
+pub struct Extent {
+    /// Its whole part: a sign, digits and commas.
+    pub whole: usize,
+    /// The rest: a point and what follows it, an exponent, or a percent sign.
+    pub rest: usize,
+}
+
 // Digits and nothing else.
 fn has_digits_alone(text: &[u8]) -> bool
     ensures { result ≡ list_all spec.is_digit text.now }
@@ -141,4 +150,50 @@ pub fn is_number_or_blank(text: &str) -> bool
     ensures { result ≡ spec.is_number_or_blank text.now }
 {
     is_blank(text) || is_number(text)
+}
+
+// Whether what follows the whole part of a number begins with this character.
+fn ends_whole(c: char) -> bool
+    ensures { result ≡ spec.ends_whole c }
+{
+    matches!(c, '.' | 'e' | 'E' | '%')
+}
+
+// How many characters the whole part of a number has.
+fn whole_len(text: &str) -> usize
+    ensures { result ≡ spec.whole_len text.now }
+{
+    text.chars().take_while(|c| !ends_whole(*c)).count()
+}
+
+// How many characters follow it.
+#[tactic(auto, using(std::proofs::lemmas::Str::chars_from_encodes))]
+fn rest_len(text: &str) -> usize
+    ensures { result ≡ spec.rest_len text.now }
+{
+    text.chars().count().saturating_sub(whole_len(text))
+}
+
+/// The extent of a text: that of a number, and 0 and 0 if it is none.
+pub fn own_extent(text: &str) -> Extent
+    ensures { result ≡ spec.own_extent text.now }
+{
+    if !is_number(text) {
+        return Extent { whole: 0, rest: 0 };
+    }
+    Extent {
+        whole: whole_len(text),
+        rest: rest_len(text),
+    }
+}
+
+/// By how many characters the rest of a number is shorter than this; 0 if the text is no number.
+pub fn lacking(rest: usize, text: &str) -> usize
+    ensures { result ≡ spec.lacking rest text.now }
+{
+    if is_number(text) {
+        rest.saturating_sub(rest_len(text))
+    } else {
+        0
+    }
 }

@@ -4,8 +4,8 @@ ghost use Rattle.std.specs.Prelude.{◌≡◌, ◌==◌, ◌&&◌, ◌<◌, ◌�
 ghost use Rattle.pg_layout.specs.Records.{columns_of};
 ghost use Rattle.pg_config.specs.Overrides.{has_glyph, with_border};
 ghost use Rattle.pg_table.specs.Even.{IsNarrowLook, are_line_glyphs, is_of_line_glyphs};
-ghost use Rattle.pg_table.specs.Inside.{along, frame_border, is_on_line, place_on, IsDrawn};
-ghost use Rattle.pg_table.specs.Panels.{footed, ruled, along_column, along_row, borders_left_of, borders_round, column_borders, column_line, lacks_column, lacks_row};
+ghost use Rattle.pg_table.specs.Inside.{along, borders_left_of, frame_border, is_on_line, place_on, IsDrawn};
+ghost use Rattle.pg_table.specs.Panels.{footed, ruled, along_column, along_row, borders_round, column_borders, lacks_column, lacks_row, HasColumnLine};
 ghost use Rattle.pg_table.specs.Panels.{frame_between, frame_borders, frame_corner, frame_crossing, frame_horizontal, frame_round, frame_vertical, IsFramed};
 
 use crate::fault::TableFault;
@@ -133,9 +133,9 @@ impl<T: AsStr + Drop, A: Allocator> Table<T, A> {
     }
 
     /// The table with a line left of a column, counted from 0: the `vertical` of these borders, and
-    /// where it crosses a row line their `intersection`, or at its ends `top_intersection` and
-    /// `bottom_intersection`. A glyph that they lack stays unchanged. So does the frame: left of
-    /// column 0 and right of the last column nothing changes.
+    /// where it crosses a row line of the table their `intersection`, or at its ends
+    /// `top_intersection` and `bottom_intersection`. A glyph that they lack stays unchanged, and so
+    /// does each other line: left of column 0 and right of the last column nothing changes.
     ///
     /// Allocates for its places. After an error the table is dropped.
     ///
@@ -149,7 +149,7 @@ impl<T: AsStr + Drop, A: Allocator> Table<T, A> {
     ) -> Result<Table<T, A>, TableFault>
     where
         A: Clone,
-        ensures line { IfOk result (λ table. IsFramed (column_line column borders (length self.rows) (columns_of self.rows) self.config) self.config table.config) }
+        ensures line { IfOk result (λ table. HasColumnLine column borders (length self.rows) (columns_of self.rows) self.config table.config) }
         ensures others { IfOk result (λ table. table ≡ record self { config = table.config }) }
         ensures memory { (fault : TableFault) → result ≡ Err fault → fault ≡ TableFault.Memory }
         ensures narrow { IsNarrowLook self.config → are_line_glyphs (column_borders borders) ≡ true → IfOk result (λ table. IsNarrowLook table.config) }
@@ -157,7 +157,8 @@ impl<T: AsStr + Drop, A: Allocator> Table<T, A> {
         let (rows, columns) = self.size();
         let line = columns.min(column);
         let (first, last) = (Position::new(0, line), Position::new(rows, line));
-        let set = self.draw_frame(borders_left_of(borders, column, columns), first, last);
+        let glyphs = borders_left_of(borders, column, &self.config, (rows, columns));
+        let set = self.draw_frame(glyphs, first, last);
         self.if_set(set)
     }
 
@@ -215,18 +216,33 @@ fn borders_round(border: Border<char>, first: Position, last: Position) -> Borde
     }
 }
 
-// The glyphs of a line left of a column, as the left side of a frame; none for a line that isn't between two columns.
-fn borders_left_of(borders: Borders<char>, column: usize, columns: usize) -> Borders<char>
-    ensures { result ≡ borders_left_of borders column columns }
+// The glyphs of a line left of a column, as the left side of a frame, whose ends are on lines that the table has; none for a line
+// that isn't between two columns.
+fn borders_left_of<A: Allocator>(
+    borders: Borders<char>,
+    column: usize,
+    config: &SpannedConfig<A>,
+    size: (usize, usize),
+) -> Borders<char>
+    ensures { result ≡ borders_left_of borders column size.0 size.1 config.now }
 {
+    let (rows, columns) = size;
     if column == 0 || columns <= column {
         return Borders::empty();
     }
     Borders {
         left: borders.vertical,
         left_intersection: borders.intersection,
-        top_left: borders.top_intersection,
-        bottom_left: borders.bottom_intersection,
+        top_left: if config.has_horizontal(0, rows) {
+            borders.top_intersection
+        } else {
+            None
+        },
+        bottom_left: if config.has_horizontal(rows, rows) {
+            borders.bottom_intersection
+        } else {
+            None
+        },
         ..Borders::empty()
     }
 }

@@ -1,16 +1,18 @@
 //! The settings of a table, and its setters by reference.
 
 ghost use Rattle.std.specs.Borrow.{sem, Lends};
-ghost use Rattle.std.specs.Prelude.{◌≡◌, ◌<◌, ℕ, false, true, length, Err, IfOk, IsOk, OnErr, OnOk};
+ghost use Rattle.std.specs.Prelude.{◌≡◌, ◌<◌, ◌≤◌, ℕ, if◌then◌else◌, false, true, length, Err, IfOk, IsOk, OnErr, OnOk};
+ghost use Rattle.pg_config.specs.Config.{get_padding};
 ghost use Rattle.pg_config.specs.Settings.{with_setting, HasRoom};
 ghost use Rattle.pg_table.specs.Even.{IsNarrowLook, are_line_glyphs, are_line_fills};
 ghost use Rattle.pg_config.specs.contracts.spanned.SpannedConfig.{the_row as config_row};
+ghost use Rattle.pg_layout.specs.Position.{holds};
 ghost use Rattle.pg_layout.specs.Records.{columns_of};
-ghost use Rattle.pg_table.specs.OwnRows.{aligned, is_numeric, numbered, texts_of, with_number_right, with_numbers_right};
+ghost use Rattle.pg_table.specs.OwnRows.{aligned, is_numeric, longest_rest, numbered, texts_of, widened_right, with_number_right, with_numbers_right, HasPointsAligned};
 ghost use Rattle.pg_table.specs.contracts.table.Table.{the_row};
 
 use crate::fault::TableFault;
-use crate::numbers::is_number_or_blank;
+use crate::numbers::{is_number_or_blank, lacking, own_extent};
 use crate::table::Table;
 use pg_config::SpannedConfig;
 use pg_layout::{
@@ -167,6 +169,41 @@ impl<T: AsStr + Drop, A: Allocator> Table<T, A> {
             Err(error) => Err(error.into()),
         }
     }
+
+    /// The table with a column at the right whose numbers
+    /// ([`is_number`](crate::numbers::is_number)) have their points below one another, from a row
+    /// on: a number that ends sooner than others behind its point has so much more padding at its
+    /// right. Other texts keep their padding. A column that isn't there changes nothing.
+    ///
+    /// A later padding of such a cell, of its row or column or of all cells takes the place of this one.
+    /// Allocates for the column and for each cell whose padding grows. After an error the table is
+    /// dropped.
+    ///
+    /// ```text
+    /// let table = table.with_points_aligned(1, 2)?; // │ 12.5  │
+    ///                                               // │  0.75 │
+    /// ```
+    pub fn with_points_aligned(
+        mut self,
+        from: usize,
+        column: usize,
+    ) -> Result<Table<T, A>, TableFault>
+    where
+        A: Clone,
+        ensures points { column < columns_of self.rows → IfOk result (λ table. HasPointsAligned (texts_of T.text self) from column self.config table.config) }
+        ensures others { IfOk result (λ table. table ≡ record self { config = table.config }) }
+        ensures absent { columns_of self.rows ≤ column → IsOk result × IfOk result (λ table. table ≡ self) }
+        ensures memory { (fault : TableFault) → result ≡ Err fault → fault ≡ TableFault.Memory }
+        ensures narrow { IsNarrowLook self.config → IfOk result (λ table. IsNarrowLook table.config) }
+    {
+        if self.count_columns() <= column {
+            return Ok(self);
+        }
+        match align_points(&self.records, &mut self.config, from, column) {
+            Ok(()) => Ok(self),
+            Err(error) => Err(error.into()),
+        }
+    }
 }
 
 // Aligns columns of numbers at the right, or some of them if memory is refused.
@@ -210,4 +247,54 @@ fn is_numeric<R: PeekableRecords + ExactRecords>(records: &R, column: usize) -> 
         }
     }
     true
+}
+
+// Puts a column at the right, and the points of its numbers below one another, or does a part of it if memory is refused.
+fn align_points<R: PeekableRecords + ExactRecords, A: Allocator + Clone>(
+    records: &R,
+    config: &mut SpannedConfig<A>,
+    from: usize,
+    column: usize,
+) -> Result<(), AllocError>
+    requires column { column < R.columns records.now }
+    ensures { OnOk result (HasPointsAligned (R.texts records.now) from column config.old config.new) }
+{
+    let rest = longest_rest(records, from, column);
+    for row in from..records.count_rows() {
+        let pos = Position::new(row, column);
+        widen_right(config, pos, lacking(rest, records.get_text(pos)))?;
+    }
+    config.set_alignment_horizontal(Entity::Column(column), AlignmentHorizontal::Right)
+}
+
+// How many characters the numbers of a column take at most from their points on.
+fn longest_rest<R: PeekableRecords + ExactRecords>(records: &R, from: usize, column: usize) -> usize
+    requires column { column < R.columns records.now }
+    ensures { result ≡ longest_rest (R.texts records.now) from column }
+{
+    let mut longest = 0usize;
+    for row in from..records.count_rows() {
+        let extent = own_extent(records.get_text(Position::new(row, column)));
+        longest = longest.max(extent.rest);
+    }
+    longest
+}
+
+// Gives the padding of a cell so many columns more at its right.
+fn widen_right<A: Allocator + Clone>(
+    config: &mut SpannedConfig<A>,
+    pos: Position,
+    columns: usize,
+) -> Result<(), AllocError>
+    ensures padding { OnOk result ((p : Position) → get_padding config.new p ≡ (if holds (Entity.Cell pos.row pos.col) p then widened_right columns (get_padding config.old pos) else get_padding config.old p)) }
+    ensures others { OnOk result (config.new ≡ record config.old { padding = config.new.padding }) }
+{
+    let mut padding = config.get_padding(pos);
+    let before = padding.right.size;
+    let size = before.saturating_add(columns);
+    if size == before {
+        return Ok(());
+    }
+    padding.right.size = size;
+    config.set_padding(Entity::Cell(pos.row, pos.col), padding)
 }
