@@ -1,5 +1,5 @@
--- The conditions of tables, each worked out by hand: which fit, and which show each line.
-use Rattle.std.proofs.Common.{◌≡◌, ℕ, List, [], ◌∷◌, ◌++◌, refl, Some, None, true, false}
+-- Conditions of tables, tables printed row by row, and compact ones, each worked out by hand; and which misfit is the first.
+use Rattle.std.proofs.Common.{◌≡◌, ℕ, List, [], ◌∷◌, ◌++◌, refl, Some, None, true, false, Option, ◌==◌, if◌then◌else◌, zero, suc, ◌+◌, ◌<◌, ◌≤◌, Bool, not, ◌||◌, map, flat_map, sym, ap, ◌∙◌, arith, subst, is_some, ◌⊎◌, inl, inr}
 use Rattle.std.specs.Prelude.{codes, slice_index_or}
 use Rattle.pg_layout.specs.declared.position.Entity.TheVariants.{Cell}
 use Rattle.pg_layout.specs.declared.sides.Indent.{Indent}
@@ -15,16 +15,30 @@ use Rattle.pg_config.specs.Config.{Config, default_config, filled, no_indents}
 use Rattle.pg_config.specs.Settings.{Settings, with_setting, no_settings}
 use Rattle.pg_config.specs.Spans.{with_column_span, with_row_span}
 use Rattle.pg_picture.specs.CompactLines.{CompactTable}
-use Rattle.pg_picture.specs.Fits.{spans_fit, spans_fit_columns, totals_fit, cell_fits, misfit_of, compact_misfit_of}
-use Rattle.pg_picture.specs.Pieces.{Style, style_at}
-use Rattle.pg_picture.specs.Table.{Table, rect_width, rect_height}
+use Rattle.pg_picture.specs.Fits.{spans_fit, spans_fit_columns, totals_fit, cell_fits, misfit_of, compact_misfit_of, body_height, owner_fits, places}
+use Rattle.pg_picture.specs.Pieces.{Style, style_at, joined}
+use Rattle.pg_picture.specs.Table.{Table, rect_width, rect_height, rect_marks, total_width, full_width}
 use Rattle.pg_picture.specs.declared.fits.Misfit.TheVariants.{Spans, Totals, Room}
 use Rattle.pg_picture.proofs.Computing.{picture_words}
 use Rattle.pg_picture.specs.Shown.{cell_shows_all, owner_shows_all, unshown_of, compact_unshown_of, compact_table_of}
 use Rattle.pg_picture.specs.declared.shown.Unshown.TheVariants.{Misfit, Lines}
-use Rattle.pg_picture.specs.Samples.{table, indent}
+use Rattle.pg_picture.specs.Samples.{table, indent, plain, bordered, for_cell}
 use Rattle.pg_picture.specs.Sizes.{height_of_rect}
 use Rattle.pg_stream.specs.ShownRows.{unshown_in_row}
+use Rattle.pg_layout.specs.declared.alignment.AlignmentVertical.TheVariants as down
+use Rattle.pg_layout.specs.declared.sides.Offset.TheVariants.{Start, End}
+use Rattle.pg_stream.specs.Printing.{Printing, lines_printed, row_lines, finish_lines, printer, after_row, lines_of_rows, rows_text}
+use Rattle.pg_laws.proofs.Computing.{printing_words, sample_words}
+use Rattle.pg_picture.specs.Picture.{compact_picture}
+use Rattle.pg_laws.specs.Samples.{grid22, one, color_r, color_b, color_g, spaced, no_color, plain_compact, compact_table}
+use Rattle.std.specs.List.{range_with_len}
+use Rattle.std.specs.Option.{option_map}
+use Rattle.std.proofs.lemmas.Bool.{cases_Bool, false≢true}
+use Rattle.std.proofs.lemmas.Bool.Decides.{nat_tests}
+use Rattle.pg_picture.specs.declared.fits.Misfit.{Misfit as WhatMisfits}
+use Rattle.pg_picture.specs.Inside.{first_failed}
+use Rattle.pg_picture.proofs.FirstPlaces.{failed_here, failed_later, failed_after, failed_before, passed_in_row, room_of, fits}
+use Rattle.pg_laws.specs.Laws.{Tells, MisfitsAreFirst, ColorsDontMatter}
 
 -- ---- the conditions of tables, each worked out by hand
 
@@ -382,3 +396,376 @@ a_compact_table_shows_one_line = refl
 a_second_line_is_told : compact_unshown_of (compact_table_of default_compact (λ c. 0) ((codes "a" ∷ three ∷ []) ∷ []) 2) ≡ Some (Lines 0 1)
 unfolding picture_words default_compact compact_unshown_of
 a_second_line_is_told = refl
+
+-- ---- tables printed row by row, each worked out by hand
+
+-- a printer of the table before its first row
+abbrev pub start : Table → Option ℕ → Printing
+start t hint = printer t.config t.columns t.width t.height t.color hint
+
+-- the rows `x` and `a`, `b`, `c`, of which the first column is one cell
+abbrev x_beside : Text → List Text
+x_beside text = codes "x" ∷ text ∷ []
+
+abbrev nothing_beside : Text → List Text
+nothing_beside text = [] ∷ text ∷ []
+
+abbrev beside_a_b_c : List (List Text)
+beside_a_b_c = x_beside (codes "a") ∷ nothing_beside (codes "b") ∷ nothing_beside (codes "c") ∷ []
+
+-- ---- three rows, of which the first cell spans all, and the second row has height 0
+
+abbrev three_rows : Table
+three_rows = table (record bordered { spans = with_row_span (at 0 0) 3 [] }) 3 2 (1 ∷ 1 ∷ []) (1 ∷ 0 ∷ 1 ∷ []) []
+
+abbrev after_first : Printing
+after_first = after_row (start three_rows (Some 3)) (x_beside (codes "a")) false
+
+abbrev after_second : Printing
+after_second = after_row after_first (nothing_beside (codes "b")) false
+
+abbrev after_third : Printing
+after_third = after_row after_second (nothing_beside (codes "c")) true
+
+the_first_row_has_two_lines : row_lines (start three_rows (Some 3)) (x_beside (codes "a")) false ≡ codes "+-+-+" ∷ codes "|x|a|" ∷ []
+unfolding printing_words
+the_first_row_has_two_lines = refl
+
+one_cell_is_open_after_the_first_row : (after_first.rows ≡ 1) × (after_first.lines ≡ 2) × (lines_printed after_first ≡ 2)
+    × (after_first.is_ended ≡ false) × (after_first.slots ≡ Some (record { begun = 0; text = codes "x"; drawn = 1 }) ∷ None ∷ [])
+unfolding printing_words
+one_cell_is_open_after_the_first_row = (refl, refl, refl, refl, refl)
+
+the_row_of_height_0_has_its_separator : row_lines after_first (nothing_beside (codes "b")) false ≡ codes "+ +-+" ∷ []
+unfolding printing_words
+the_row_of_height_0_has_its_separator = refl
+
+the_separator_counts_as_drawn : (after_second.rows ≡ 2) × (after_second.lines ≡ 3) × (after_second.slots ≡ Some (record { begun = 0; text = codes "x"; drawn = 2 }) ∷ None ∷ [])
+unfolding printing_words
+the_separator_counts_as_drawn = (refl, refl, refl)
+
+the_last_row_has_two_lines : row_lines after_second (nothing_beside (codes "c")) true ≡ codes "+ +-+" ∷ codes "| |c|" ∷ []
+unfolding printing_words
+the_last_row_has_two_lines = refl
+
+no_cell_is_open_after_the_last_row : (after_third.rows ≡ 3) × (after_third.lines ≡ 5) × (after_third.is_ended ≡ true) × (after_third.slots ≡ None ∷ None ∷ [])
+unfolding printing_words
+no_cell_is_open_after_the_last_row = (refl, refl, refl, refl)
+
+the_last_separator_ends_the_table : finish_lines after_third ≡ codes "+-+-+" ∷ []
+unfolding printing_words
+the_last_separator_ends_the_table = refl
+
+-- ---- an open cell of which nothing is drawn yet
+
+abbrev no_line_first : Table
+no_line_first = table (record plain { spans = with_row_span (at 0 0) 2 [] }) 2 2 (1 ∷ 1 ∷ []) (0 ∷ 1 ∷ []) []
+
+abbrev after_no_line : Printing
+after_no_line = after_row (start no_line_first None) (x_beside (codes "a")) false
+
+a_cell_is_open_before_its_first_line : (row_lines (start no_line_first None) (x_beside (codes "a")) false ≡ []) × (after_no_line.lines ≡ 0) × (lines_printed after_no_line ≡ 0)
+    × (after_no_line.slots ≡ Some (record { begun = 0; text = codes "x"; drawn = 0 }) ∷ None ∷ [])
+    × (row_lines after_no_line (nothing_beside (codes "b")) true ≡ codes "xb" ∷ [])
+unfolding printing_words
+a_cell_is_open_before_its_first_line = (refl, refl, refl, refl, refl)
+
+-- ---- whole tables
+
+-- only the first and the last line are there, so three rows of height 1 make a rectangle of three lines
+a_text_at_the_bottom_of_a_row_span : lines_of_rows (start (table (record plain { borders = record no_borders { top = Some 61; bottom = Some 61 }; spans = with_row_span (at 0 0) 3 []; alignment_vertical = for_cell 0 0 down.Bottom }) 3 2 (1 ∷ 1 ∷ []) (1 ∷ 1 ∷ 1 ∷ []) []) None) beside_a_b_c
+    ≡ codes "==" ∷ codes " a" ∷ codes " b" ∷ codes "xc" ∷ codes "==" ∷ []
+unfolding printing_words
+a_text_at_the_bottom_of_a_row_span = refl
+
+a_row_span_goes_through_separators : lines_of_rows (start three_rows None) beside_a_b_c
+    ≡ codes "+-+-+" ∷ codes "|x|a|" ∷ codes "+ +-+" ∷ codes "+ +-+" ∷ codes "| |c|" ∷ codes "+-+-+" ∷ []
+unfolding printing_words
+a_row_span_goes_through_separators = refl
+
+-- a line feed stands before each line but the first
+line_feeds_stand_between_lines : rows_text (start three_rows (Some 3)) beside_a_b_c
+    ≡ codes "+-+-+" ++ 10 ∷ codes "|x|a|" ++ 10 ∷ codes "+ +-+" ++ 10 ∷ codes "+ +-+" ++ 10 ∷ codes "| |c|" ++ 10 ∷ codes "+-+-+"
+unfolding printing_words
+line_feeds_stand_between_lines = refl
+
+no_row_prints_nothing : (finish_lines (start three_rows None) ≡ []) × (rows_text (start three_rows (Some 0)) [] ≡ [])
+unfolding printing_words
+no_row_prints_nothing = (refl, refl)
+
+-- ---- margins
+
+-- one row between margins, where the left one is blank at the last line if that is known
+abbrev between_margins : Table
+between_margins = table (record bordered { margin = record { left = indent 1 35; right = indent 0 32; top = indent 2 94; bottom = indent 1 118 }; margin_offset = record { left = End 1; right = Start 0; top = Start 0; bottom = Start 0 } }) 1 1 (2 ∷ []) (1 ∷ []) []
+
+the_top_margin_stands_above_the_first_row : row_lines (start between_margins (Some 1)) (codes "ab" ∷ []) true ≡ codes "^^^^^" ∷ codes "^^^^^" ∷ codes "#+--+" ∷ codes "#|ab|" ∷ []
+unfolding printing_words
+the_top_margin_stands_above_the_first_row = refl
+
+the_end_of_a_margin_needs_the_number_of_rows : (finish_lines (after_row (start between_margins (Some 1)) (codes "ab" ∷ []) true) ≡ codes " +--+" ∷ codes "vvvvv" ∷ [])
+    × (finish_lines (after_row (start between_margins None) (codes "ab" ∷ []) true) ≡ codes "#+--+" ∷ codes "vvvvv" ∷ [])
+unfolding printing_words
+the_end_of_a_margin_needs_the_number_of_rows = (refl, refl)
+
+-- ---- compact pictures, each worked out by hand
+
+abbrev a_over_b : List (List Text)
+a_over_b = (codes "a" ∷ []) ∷ (codes "b" ∷ []) ∷ []
+
+abbrev a_beside_b : List (List Text)
+a_beside_b = (codes "a" ∷ codes "b" ∷ []) ∷ []
+
+-- ---- the whole
+
+no_rows_make_no_compact_picture : (columns : ℕ) → compact_picture (compact_table (record plain_compact { borders = ascii; margin = filled (indent 1 35) }) 0 columns [] []) ≡ []
+unfolding sample_words
+no_rows_make_no_compact_picture columns = refl
+
+no_columns_make_no_compact_picture : compact_picture (compact_table (record plain_compact { borders = ascii; margin = filled (indent 1 35) }) 2 0 [] []) ≡ []
+unfolding sample_words
+no_columns_make_no_compact_picture = refl
+
+a_compact_table_of_two_rows_and_columns : compact_picture (compact_table (record plain_compact { borders = ascii }) 2 2 (3 ∷ 3 ∷ []) grid22)
+    ≡ joined (codes "+---+---+" ∷ codes "|0-0|0-1|" ∷ codes "|---+---|" ∷ codes "|1-0|1-1|" ∷ codes "+---+---+" ∷ [])
+unfolding sample_words
+a_compact_table_of_two_rows_and_columns = refl
+
+-- the separator between two rows ends with the glyphs of the rows' sides
+an_inner_separator_ends_with_the_sides : compact_picture (compact_table (record plain_compact { borders = ascii }) 2 1 (1 ∷ []) a_over_b)
+    ≡ joined (codes "+-+" ∷ codes "|a|" ∷ codes "|-|" ∷ codes "|b|" ∷ codes "+-+" ∷ [])
+unfolding sample_words
+an_inner_separator_ends_with_the_sides = refl
+
+margins_and_borders : compact_picture (compact_table (record plain_compact { borders = ascii; margin = record { left = indent 1 60; right = indent 1 62; top = indent 2 94; bottom = indent 1 118 } }) 1 1 (1 ∷ []) (one (codes "a")))
+    ≡ joined (codes "^^^^^" ∷ codes "^^^^^" ∷ codes "<+-+>" ∷ codes "<|a|>" ∷ codes "<+-+>" ∷ codes "vvvvv" ∷ [])
+unfolding sample_words
+margins_and_borders = refl
+
+-- side margins stand round every line, coloured ones of size 0 too; a text's colour ends before its share
+side_margins_stand_round_every_line : compact_picture (record (compact_table (record plain_compact {
+  borders = ascii;
+  margin = record { left = indent 1 35; right = indent 0 32; top = indent 0 32; bottom = indent 0 32 };
+  margin_color = record { left = color_r; right = color_b; top = no_color; bottom = no_color };
+  padding = record { left = indent 1 46; right = indent 0 32; top = indent 1 42; bottom = indent 1 42 };
+  alignment = across.Right;
+}) 2 1 (3 ∷ []) a_over_b) { color = λ p. if p.row == 0 then Some color_g else None })
+    ≡ joined (codes "<r>#</r>+---+<b></b>" ∷ codes "<r>#</r>|   |<b></b>" ∷ codes "<r>#</r>|. <g>a</g>|<b></b>" ∷ codes "<r>#</r>|   |<b></b>"
+    ∷ codes "<r>#</r>|---|<b></b>" ∷ codes "<r>#</r>|   |<b></b>" ∷ codes "<r>#</r>|. b|<b></b>" ∷ codes "<r>#</r>|   |<b></b>" ∷ codes "<r>#</r>+---+<b></b>" ∷ [])
+unfolding sample_words
+side_margins_stand_round_every_line = refl
+
+a_coloured_margin_line : compact_picture (compact_table (record plain_compact {
+  margin = record { left = indent 0 32; right = indent 1 62; top = indent 1 94; bottom = indent 0 32 };
+  margin_color = record { left = no_color; right = no_color; top = color_r; bottom = color_b };
+}) 1 1 (1 ∷ []) (one (codes "a"))) ≡ joined (codes "<r>^^</r>" ∷ codes "a>" ∷ [])
+unfolding sample_words
+a_coloured_margin_line = refl
+
+-- ---- cells
+
+a_text_wider_than_its_column_is_whole : compact_picture (compact_table plain_compact 1 1 (2 ∷ []) (one (codes "abcd" ++ 10 ∷ codes "x"))) ≡ codes "abcd"
+unfolding sample_words
+a_text_wider_than_its_column_is_whole = refl
+
+a_first_line_loses_its_carriage_return : compact_picture (compact_table plain_compact 1 1 (2 ∷ []) (one (codes "a" ++ 13 ∷ 10 ∷ codes "x"))) ≡ codes "a "
+unfolding sample_words
+a_first_line_loses_its_carriage_return = refl
+
+a_compact_text_at_the_centre : compact_picture (compact_table (record plain_compact { alignment = across.Center }) 1 1 (4 ∷ []) (one (codes "a"))) ≡ codes " a  "
+unfolding sample_words
+a_compact_text_at_the_centre = refl
+
+a_compact_text_at_the_right : compact_picture (compact_table (record plain_compact { alignment = across.Right; padding = spaced 0 1 0 0 }) 1 1 (4 ∷ []) (one (codes "a"))) ≡ codes "  a "
+unfolding sample_words
+a_compact_text_at_the_right = refl
+
+-- a colour stands also round an empty text
+a_coloured_compact_text_that_is_empty : compact_picture (record (compact_table plain_compact 1 1 (1 ∷ []) (one [])) { color = λ p. Some color_r }) ≡ codes "<r></r> "
+unfolding sample_words
+a_coloured_compact_text_that_is_empty = refl
+
+-- a padding line is spaces, whatever its fill
+padding_lines_are_spaces : compact_picture (compact_table (record plain_compact { padding = record { left = indent 1 46; right = indent 1 46; top = indent 1 42; bottom = indent 0 32 } }) 1 1 (3 ∷ []) (one (codes "a")))
+    ≡ joined (codes "   " ∷ codes ".a." ∷ [])
+unfolding sample_words
+padding_lines_are_spaces = refl
+
+a_coloured_padding_of_size_0 : compact_picture (compact_table (record plain_compact { padding_color = record { left = color_r; right = no_color; top = no_color; bottom = no_color } }) 1 1 (1 ∷ []) (one (codes "a")))
+    ≡ codes "<r></r>a"
+unfolding sample_words
+a_coloured_padding_of_size_0 = refl
+
+coloured_padding_lines_by_column : compact_picture (compact_table (record plain_compact { borders = record no_borders { vertical = Some 124 }; padding = spaced 0 0 1 0; padding_color = record { left = no_color; right = no_color; top = color_b; bottom = no_color } }) 1 2 (1 ∷ 0 ∷ []) ((codes "a" ∷ [] ∷ []) ∷ []))
+    ≡ joined (codes "<b> </b>|<b></b>" ∷ codes "a|" ∷ [])
+unfolding sample_words
+coloured_padding_lines_by_column = refl
+
+-- ---- separators
+
+a_coloured_corner_colours_its_line : compact_picture (compact_table (record plain_compact { borders = record no_borders { top = Some 45; top_left = Some 43; top_right = Some 43; top_intersection = Some 43 }; borders_color = record no_borders { top_left = Some color_r } }) 1 2 (1 ∷ 1 ∷ []) a_beside_b)
+    ≡ joined (codes "<r>+-+-+</r>" ∷ codes "ab" ∷ [])
+unfolding sample_words
+a_coloured_corner_colours_its_line = refl
+
+an_empty_colour_closes_the_open_one : compact_picture (compact_table (record plain_compact { borders = record no_borders { top = Some 45; top_left = Some 43; top_right = Some 43; top_intersection = Some 43 }; borders_color = record no_borders { top_left = Some color_r; top_intersection = Some no_color } }) 1 2 (1 ∷ 1 ∷ []) a_beside_b)
+    ≡ joined (codes "<r>+-</r>+-+" ∷ codes "ab" ∷ [])
+unfolding sample_words
+an_empty_colour_closes_the_open_one = refl
+
+coloured_sides : compact_picture (compact_table (record plain_compact { borders = ascii; borders_color = record no_borders { left = Some color_b; right = Some color_r } }) 2 1 (1 ∷ []) a_over_b)
+    ≡ joined (codes "+-+" ∷ codes "<b>|</b>a<r>|</r>" ∷ codes "<b>|-</b><r>|</r>" ∷ codes "<b>|</b>b<r>|</r>" ∷ codes "+-+" ∷ [])
+unfolding sample_words
+coloured_sides = refl
+
+-- the left end takes its own colour, and the right end too
+each_end_takes_its_own_colour : compact_picture (compact_table (record plain_compact { borders = ascii; borders_color = record no_borders { top_left = Some color_r; top = Some color_g; top_right = Some color_b } }) 1 1 (2 ∷ []) (one (codes "ab")))
+    ≡ joined (codes "<r>+</r><g>--</g><b>+</b>" ∷ codes "|ab|" ∷ codes "+--+" ∷ [])
+unfolding sample_words
+each_end_takes_its_own_colour = refl
+
+a_column_of_width_0_has_no_main : compact_picture (compact_table (record plain_compact { borders = record no_borders { top = Some 45; top_intersection = Some 43 }; borders_color = record no_borders { top = Some color_r } }) 1 2 (0 ∷ 2 ∷ []) (([] ∷ codes "ab" ∷ []) ∷ []))
+    ≡ joined (codes "+<r>--</r>" ∷ codes "ab" ∷ [])
+unfolding sample_words
+a_column_of_width_0_has_no_main = refl
+
+-- the widths count a column line that has no glyph in the rows
+a_compact_corner_widens_a_margin : compact_picture (compact_table (record plain_compact { borders = record no_borders { top_left = Some 43 }; margin = record { left = indent 0 32; right = indent 0 32; top = indent 1 94; bottom = indent 0 32 } }) 1 1 (1 ∷ []) (one (codes "a")))
+    ≡ joined (codes "^^" ∷ codes "+ " ∷ codes "a" ∷ [])
+unfolding sample_words
+a_compact_corner_widens_a_margin = refl
+
+a_side_crossing_alone_makes_separators_of_spaces : compact_picture (compact_table (record plain_compact { borders = record no_borders { left_intersection = Some 42 } }) 2 1 (1 ∷ []) a_over_b)
+    ≡ joined (codes "a" ∷ codes " " ∷ codes "b" ∷ [])
+unfolding sample_words
+a_side_crossing_alone_makes_separators_of_spaces = refl
+
+-- ---- a misfit is the first one that applies, and colours don't matter to it
+
+None≢Some : (p : Position) → None ≡ Some p → ⊥
+None≢Some p e = false≢true (ap (λ (o : Option Position). is_some o) e)
+
+option_cases : (o : Option Position) → (o ≡ None) ⊎ ((p : Position) × (o ≡ Some p))
+option_cases None = inl refl
+option_cases (Some p) = inr (p, refl)
+
+module _ (t : Table) where
+  abbrev HasRoom : ℕ → ℕ → Type 0
+  HasRoom r c = owner_fits t (at r c) ≡ true
+
+  abbrev row_of : ℕ → List Position
+  row_of r = map (at r) (range_with_len 0 t.columns)
+
+  abbrev rows_of : ℕ → ℕ → List Position
+  rows_of a k = flat_map (λ r. map (at r) (range_with_len 0 t.columns)) (range_with_len a k)
+
+  -- the first place without room among those of row r from column a on
+  record InRow (r a k : ℕ) (m : Position) : Type 0 where
+    column : ℕ
+    from : a ≤ column
+    below : column < a + k
+    is : Some (at r column) ≡ Some m
+    room : owner_fits t (at r column) ≡ false
+    before : (d : ℕ) → a ≤ d → d < column → HasRoom r d
+
+  in_row : (r a k : ℕ) (m : Position) → first_failed (owner_fits t) (map (at r) (range_with_len a k)) ≡ Some m → InRow r a k m
+  in_row r a zero m e = absurd (None≢Some m e)
+  in_row r a (suc k) m e =
+      let rest : List Position = map (at r) (range_with_len (a + 1) k) in
+      elim (cases_Bool (owner_fits t (at r a))) [
+        | inr n ↦ record { column = a; from = omega arith; below = omega arith; is = sym (failed_here (owner_fits t) (at r a) rest n) ∙ e; room = n; before = λ d l h. absurd (omega (arith, l, h)) }
+        | inl y ↦
+            let later = in_row r (a + 1) k m (sym (failed_later (owner_fits t) (at r a) rest y) ∙ e) in
+            record {
+              column = later.column;
+              from = omega (arith, later.from);
+              below = omega (arith, later.below);
+              is = later.is;
+              room = later.room;
+              before = λ d l h. elim (cases_Bool (a == d)) [
+                | inl same ↦ let is : a ≡ d = grind (arith, nat_tests, same) in subst (λ x. HasRoom r x) is y
+                | inr other ↦ later.before d (grind (arith, nat_tests, other, l)) h
+              ];
+            }
+      ]
+
+  -- and among those of the rows from a on
+  record InRows (a k : ℕ) (m : Position) : Type 0 where
+    row : ℕ
+    from : a ≤ row
+    below : row < a + k
+    place : InRow row 0 t.columns m
+    before : (s d : ℕ) → a ≤ s → s < row → d < t.columns → HasRoom s d
+
+  in_rows : (a k : ℕ) (m : Position) → first_failed (owner_fits t) (flat_map (λ r. map (at r) (range_with_len 0 t.columns)) (range_with_len a k)) ≡ Some m → InRows a k m
+  in_rows a zero m e = absurd (None≢Some m e)
+  in_rows a (suc k) m e =
+      let row : List Position = row_of a in
+      let rest : List Position = rows_of (a + 1) k in
+      elim (option_cases (first_failed (owner_fits t) (row_of a))) [
+        | inr found ↦
+            let here : first_failed (owner_fits t) row ≡ Some m = found.1 ∙ sym (failed_before (owner_fits t) row rest found.0 found.1) ∙ e in
+            record { row = a; from = omega arith; below = omega arith; place = in_row a 0 t.columns m here; before = λ s d l h k. absurd (omega (arith, l, h)) }
+        | inl none ↦
+            let later = in_rows (a + 1) k m (sym (failed_after (owner_fits t) row rest none) ∙ e) in
+            record {
+              row = later.row;
+              from = omega (arith, later.from);
+              below = omega (arith, later.below);
+              place = later.place;
+              before = λ s d l h k. elim (cases_Bool (a == s)) [
+                | inl same ↦ let is : a ≡ s = grind (arith, nat_tests, same) in subst (λ x. HasRoom x d) is (passed_in_row (owner_fits t) a 0 t.columns d none (omega arith) (omega (arith, k)))
+                | inr other ↦ later.before s d (grind (arith, nat_tests, other, l)) h k
+              ];
+            }
+      ]
+
+  judged : Bool → Bool → Option WhatMisfits
+  judged s u = if not s then Some Spans else if not u then Some Totals else option_map room_of (first_failed (owner_fits t) (places t.rows t.columns))
+
+  some_size : 0 < t.rows → 0 < t.columns → ((t.rows == 0) || (t.columns == 0)) ≡ false
+  some_size h k = grind (arith, nat_tests, h, k)
+
+  misfit_of-judged : 0 < t.rows → 0 < t.columns → misfit_of t ≡ judged (spans_fit t.config.spans t.rows t.columns) (totals_fit t)
+  unfolding misfit_of judged
+  misfit_of-judged h k = rw (some_size h k) refl
+
+  told : (o : Option WhatMisfits) → misfit_of t ≡ o → Tells t o → Tells t (misfit_of t)
+  told o e h = let P : Option WhatMisfits → Type 0 = λ q. Tells t q in subst P (sym e) h
+
+  -- where spans and totals fit, the rooms tell
+  rooms : 0 < t.rows → 0 < t.columns → spans_fit t.config.spans t.rows t.columns ≡ true → totals_fit t ≡ true → Tells t (misfit_of t)
+  unfolding judged places
+  rooms h k spans totals =
+      let is : misfit_of t ≡ option_map room_of (first_failed (owner_fits t) (rows_of 0 t.rows)) = misfit_of-judged h k ∙ rw (spans, totals) refl in
+      elim (option_cases (first_failed (owner_fits t) (rows_of 0 t.rows))) [
+        | inl none ↦ told None (is ∙ ap (λ (o : Option Position). option_map room_of o) none) (fits t (is ∙ ap (option_map room_of) none) h k)
+        | inr found ↦
+            let first = in_rows 0 t.rows found.0 found.1 in
+            let place = first.place in
+            told (Some (Room first.row place.column)) (is ∙ ap (λ (o : Option Position). option_map room_of o) (found.1 ∙ sym place.is)) (record {
+              spans = spans;
+              totals = totals;
+              row = omega (arith, first.below);
+              column = omega (arith, place.below);
+              room = place.room;
+              rows_before = λ s d l m. first.before s d (omega arith) l m;
+              columns_before = λ d l. place.before d (omega arith) l;
+            })
+      ]
+
+pub misfits_are_first : MisfitsAreFirst
+unfolding judged
+misfits_are_first t h k =
+    elim (cases_Bool (spans_fit t.config.spans t.rows t.columns)) [
+      | inr n ↦ told t (Some Spans) (misfit_of-judged t h k ∙ rw n refl) n
+      | inl y ↦ elim (cases_Bool (totals_fit t)) [
+        | inr n ↦ told t (Some Totals) (misfit_of-judged t h k ∙ rw (y, n) refl) (y, n)
+        | inl z ↦ rooms t h k y z
+      ]
+    ]
+
+-- colours don't matter
+pub misfit_of-colors : ColorsDontMatter
+unfolding misfit_of owner_fits rect_width rect_height rect_marks totals_fit full_width total_width body_height
+misfit_of-colors t color = refl

@@ -30,7 +30,7 @@ use Rattle.pg_layout.specs.declared.position.Entity.{Entity}
 use Rattle.pg_layout.specs.declared.position.Entity.TheVariants.{Global, Row, Column, Cell}
 use Rattle.pg_layout.specs.declared.sides.Offset.{Offset}
 use Rattle.pg_config.specs.Settings.{Settings, has_some, next_number, with_setting, is_set}
-use Rattle.pg_laws.specs.Setters.{Setter, set_padding_color, set_justification, set_justification_color, set_borders_color, set_border_color, set_horizontal_char, set_horizontal_color, set_vertical_char, set_vertical_color, after}
+use Rattle.pg_laws.specs.SettingLaws.{Setter, set_padding_color, set_justification, set_justification_color, set_borders_color, set_border_color, set_horizontal_char, set_horizontal_color, set_vertical_char, set_vertical_color, after}
 use Rattle.pg_config.proofs.SettingsLaw.{setting_of-with_setting}
 
 -- ---- what sizes and owners there are after the span of a cell is set, place by place

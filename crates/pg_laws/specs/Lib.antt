@@ -1,4 +1,3 @@
-pub mod Setters
 pub mod SettingLaws
 pub mod Laws
 pub mod Samples

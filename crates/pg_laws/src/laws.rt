@@ -10,7 +10,7 @@ ghost use Rattle.pg_laws.specs.Laws.{TextsAreOne};
 use pg_layout::{Colors, Dimension, Records};
 
 /// A table with no rows or no columns has the empty picture, whatever its settings.
-#[tactic(auto, using(crate::proofs::LinesOfPictures::nothing_to_draw, crate::proofs::LinesOfPictures::nothing_compact_to_draw))]
+#[tactic(auto, using(crate::proofs::DrawnCells::nothing_to_draw, crate::proofs::DrawnCells::nothing_compact_to_draw))]
 pub fn no_rows_or_columns_draw_nothing()
     ensures table { NothingToDraw }
     ensures compact { NothingCompactToDraw }
@@ -19,7 +19,7 @@ pub fn no_rows_or_columns_draw_nothing()
 /// Any other picture is its lines, with one line feed between each two: none before the first line,
 /// none after the last. If no line contains a line feed, in a glyph or a colour, cutting a picture
 /// that has lines at its line feeds gives these lines.
-#[tactic(auto, using(crate::proofs::LinesOfPictures::joined_lines))]
+#[tactic(auto, using(crate::proofs::DrawnCells::joined_lines))]
 pub fn lines_are_joined_by_one_feed()
     ensures table { LinesAreJoined }
     ensures compact { CompactLinesAreJoined }
@@ -29,7 +29,7 @@ pub fn lines_are_joined_by_one_feed()
 
 /// A picture has as many lines as its top margin, its body and its bottom margin together. The body
 /// has the heights of all rows, and one line for each row line that exists.
-#[tactic(auto, using(crate::proofs::LinesOfPictures::lines_are_counted))]
+#[tactic(auto, using(crate::proofs::DrawnCells::lines_are_counted))]
 pub fn lines_are_those_of_body_and_margins()
     ensures { LinesAreCounted }
 {}
@@ -88,7 +88,7 @@ pub fn shown_cells_are_drawn_in_their_rectangles()
 /// Without spans each cell is as wide as its column and as high as its row. A line of a row is a
 /// vertical and the cell's line for each column, and the last vertical; a separator is a crossing
 /// and a horizontal for each column, and the last crossing.
-#[tactic(auto, using(crate::proofs::LinesOfPictures::plain_rows, crate::proofs::LinesOfPictures::plain_separators))]
+#[tactic(auto, using(crate::proofs::DrawnCells::plain_rows, crate::proofs::DrawnCells::plain_separators))]
 pub fn tables_without_spans_are_drawn_cell_by_cell()
     ensures rows { PlainRows }
     ensures separators { PlainSeparators }
@@ -96,7 +96,7 @@ pub fn tables_without_spans_are_drawn_cell_by_cell()
 
 /// Margins of size 0 add nothing, whatever their fills, colours and offsets: the picture is the
 /// lines of its body alone.
-#[tactic(auto, using(crate::proofs::LinesOfPictures::bodies_stand_alone))]
+#[tactic(auto, using(crate::proofs::DrawnCells::bodies_stand_alone))]
 pub fn margins_of_size_0_add_nothing()
     ensures { BodiesStandAlone }
 {}
@@ -110,7 +110,7 @@ pub fn hints_matter_to_offsets_from_the_end_alone()
 
 /// A misfit is the first that applies: spans before totals, totals before room, and of cells
 /// without room the first one, row by row. A table that fits has none.
-#[tactic(auto, using(pg_picture::proofs::FirstPlaces::fitting_tables_have_none, crate::proofs::FirstMisfits::misfits_are_first))]
+#[tactic(auto, using(pg_picture::proofs::FirstPlaces::fitting_tables_have_none, crate::proofs::RowsFits::misfits_are_first))]
 pub fn a_misfit_is_the_first_that_applies()
     ensures first { MisfitsAreFirst }
     ensures none { FittingTablesHaveNone }
@@ -125,7 +125,7 @@ pub fn spans_fit_by_places()
 
 /// A rectangle's height is the same in each table that it ends in. The body has as many lines as
 /// its height says.
-#[tactic(auto, using(crate::proofs::LinesOfPictures::heights))]
+#[tactic(auto, using(crate::proofs::DrawnCells::heights))]
 pub fn heights_are_lines()
     ensures stay { HeightsStay }
     ensures body { BodyHasItsHeight }
@@ -140,7 +140,7 @@ pub fn no_misfit_means_fits()
 
 /// A streaming grid and a looked-up grid of the same parts append the same text, byte for byte, if
 /// the records give their number of rows, or no side margin has an offset from the end.
-#[tactic(auto, using(crate::proofs::LinesOfPictures::texts_are_one))]
+#[tactic(auto, using(crate::proofs::DrawnCells::texts_are_one))]
 pub fn streamed_and_looked_up_texts_are_one<R: Records, D: Dimension, C: Colors>()
     ensures { TextsAreOne R.Records D.Dimension C.Colors }
 {}

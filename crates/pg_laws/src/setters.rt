@@ -3,10 +3,10 @@
 
 ghost use Rattle.std.specs.Prelude.{◌≡◌, ◌∷◌, [], OnOk};
 ghost use Rattle.std.specs.List.{fold};
-ghost use Rattle.pg_laws.specs.Setters.{after, set_padding, set_padding_color, set_alignment_horizontal, set_alignment_vertical, set_trim_horizontal, set_trim_vertical};
-ghost use Rattle.pg_laws.specs.Setters.{set_line_alignment, set_justification, set_justification_color, set_borders, set_borders_missing, set_border, set_row_line};
-ghost use Rattle.pg_laws.specs.Setters.{set_span_crossings, set_borders_color, set_border_color, set_horizontal_char, set_horizontal_color, set_vertical_char, set_vertical_color};
-ghost use Rattle.pg_laws.specs.Setters.{set_margin, set_margin_offset, set_margin_color, set_column_span, set_row_span};
+ghost use Rattle.pg_laws.specs.SettingLaws.{after, set_padding, set_padding_color, set_alignment_horizontal, set_alignment_vertical, set_trim_horizontal, set_trim_vertical};
+ghost use Rattle.pg_laws.specs.SettingLaws.{set_line_alignment, set_justification, set_justification_color, set_borders, set_borders_missing, set_border, set_row_line};
+ghost use Rattle.pg_laws.specs.SettingLaws.{set_span_crossings, set_borders_color, set_border_color, set_horizontal_char, set_horizontal_color, set_vertical_char, set_vertical_color};
+ghost use Rattle.pg_laws.specs.SettingLaws.{set_margin, set_margin_offset, set_margin_color, set_column_span, set_row_span};
 
 use pg_config::SpannedConfig;
 use pg_layout::{
