@@ -1,6 +1,6 @@
 -- What has been read of one part, and then of the next, has been read of both; the steps of a tree; the rows of a table; and why it isn't shown.
 use Rattle.std.proofs.Common.{◌≡◌, ◌<◌, ◌∙◌, ◌+◌, ◌++◌, ◌∷◌, ℕ, List, [], map, take, drop, get_or, length, Option, Some, None, Result, Ok, Err, inl, inr, refl, sym, ap, ap₂, subst, zero-add}
-use Rattle.std.proofs.Common.{add-zero, add_assoc, append_assoc, arith, ◌-◌, suc, zero, ◌≤◌, subst₂, Bool, true, false}
+use Rattle.std.proofs.Common.{add-zero, add_assoc, append_assoc, arith, ◌-◌, suc, zero, ◌≤◌, Bool, true, false}
 use Rattle.std.specs.List.{flat_map, range_with_len}
 use Rattle.std.proofs.lemmas.List.{map-append, append-nil, map_more}
 use Rattle.ruled_database.specs.Trees.{Read, all, both, given, joined, damaged, one_page, where_some, Gives, GivesPage, Stored, chain, record_of}
@@ -12,7 +12,7 @@ use Rattle.ruled_database.specs.declared.fault.TableFault.TheVariants.{Damage, D
 use Rattle.std.proofs.Math.Dec.{leb-suc-suc}
 use Rattle.std.proofs.Math.Numerals.{add-one}
 use Rattle.std.proofs.lemmas.Bool.Decides.{nat_tests}
-use Rattle.std.specs.Prelude.{◌==◌, ◌≢◌, if◌then◌else◌, slice_index_or, nat_le, Any, IfErr}
+use Rattle.std.specs.Prelude.{◌==◌, if◌then◌else◌, slice_index_or, nat_le, All, Any, IfErr}
 use Rattle.std.specs.Result.{IsErrAnd}
 use Rattle.sqlite_format.specs.Bytes.{u32_at}
 use Rattle.sqlite_format.specs.Page.{cell_count, right_child}
@@ -22,6 +22,7 @@ use Rattle.sqlite_format.specs.Cell.{cell_child}
 use Rattle.std.specs.Option.{option_and_then}
 use Rattle.sqlite_record.specs.Affinity.{widen}
 use Rattle.sqlite_value.specs.Order.{Row}
+use Rattle.csv.specs.Records.{AllText}
 use Rattle.ruled_database.specs.Tables.{LacksTexts, AddsRows, GivesRow, HasWrongText, IsOld, IsUnsound, row_in, shown_row, shown_rows_of, texts_in, tree_rows, values_of, names_in}
 use Rattle.ruled_database.specs.declared.definition.Definition.{Definition}
 use Rattle.ruled_database.specs.Listings.{Entry, HasWrongEntry, IsListed, IsWrongEntry, LacksDefinition, LacksEntries, LacksEntry, LacksListing, LacksRows, LacksSchema, LacksTable}
@@ -304,12 +305,12 @@ text_more f xs i none text partial old new within is pushed whole before =
     ∙ ap (λ (t : List ℕ). map f (take i xs) ++ t ∷ []) is
     ∙ sym (map_more f xs i none within)
 
-module _ (file : List ℕ) (definition : Definition) (row : Stored) (n m : ℕ) where
+module _ (file : List ℕ) (definition : Definition) (row : Stored) (number n m : ℕ) where
   texts_of : List ℕ → Option (List (List (List ℕ)))
   texts_of bytes = row_in definition row.key (values_of file bytes)
 
   pub gives_shown : {U V : Type 0} (x : U) (y : V) (record_bytes : List ℕ) (old new : List (List (List ℕ))) → Gives (record_of file row) n m [] record_bytes (Ok x)
-      → definition.least ≤ length (values_of file record_bytes) → new ≡ old ++ texts_in definition row.key (values_of file record_bytes) ∷ [] → GivesRow file definition row n m old new (Ok y)
+      → definition.least ≤ length (values_of file record_bytes) → new ≡ old ++ texts_in definition row.key (values_of file record_bytes) ∷ [] → GivesRow file definition row number n m old new (Ok y)
   unfolding texts_of
   gives_shown x y record_bytes old new read long added =
       let same : record_bytes ≡ read.0 = read.2 in
@@ -319,27 +320,34 @@ module _ (file : List ℕ) (definition : Definition) (row : Stored) (n m : ℕ) 
 
   -- a record that lacks the value of a column
   pub gives_old : {U : Type 0} (V : Type 0) (x : U) (record_bytes : List ℕ) (old new : List (List (List ℕ))) → Gives (record_of file row) n m [] record_bytes (Ok x)
-      → length (values_of file record_bytes) < definition.least → GivesRow {U = V} file definition row n m old new (Err Default)
+      → length (values_of file record_bytes) < definition.least → GivesRow {U = V} file definition row number n m old new (Err Default)
   gives_old V x record_bytes old new read short = let same : record_bytes ≡ read.0 = read.2 in (record_bytes, read.1 ∙ ap Some (sym same), short)
 
   -- a text that isn't UTF-8
-  pub gives_wrong : {U V : Type 0} (x : U) (record_bytes : List ℕ) (texts : List (List ℕ)) (old new : List (List (List ℕ))) (result : Result V TableFault) (found : TableFault) (at : ℕ)
-      → IsErrAnd result (λ fault. fault ≡ found) → (found ≢ Memory → found ≡ Encoding at) → Gives (record_of file row) n m [] record_bytes (Ok x) → texts ≡ texts_in definition row.key (values_of file record_bytes)
-      → LacksTexts texts found → GivesRow file definition row n m old new result
-  gives_wrong x record_bytes texts old new (Ok y) found at told place read is lacks = absurd told
-  gives_wrong {U} {V} x record_bytes texts old new (Err fault) Memory at told place read is lacks =
-      subst (λ (f : TableFault). GivesRow {U = V} file definition row n m old new (Err f)) (sym told) tt
-  gives_wrong {U} {V} x record_bytes texts old new (Err fault) Damage at told place read is lacks = absurd lacks
-  gives_wrong {U} {V} x record_bytes texts old new (Err fault) Default at told place read is lacks = absurd lacks
-  gives_wrong {U} {V} x record_bytes texts old new (Err fault) (Encoding number) at told place read is lacks =
+  pub gives_wrong : {U V : Type 0} (x : U) (record_bytes : List ℕ) (texts : List (List ℕ)) (old new : List (List (List ℕ))) (result : Result V TableFault) (found : TableFault)
+      → IsErrAnd result (λ fault. fault ≡ found) → Gives (record_of file row) n m [] record_bytes (Ok x) → texts ≡ texts_in definition row.key (values_of file record_bytes)
+      → LacksTexts number texts found → GivesRow file definition row number n m old new result
+  gives_wrong x record_bytes texts old new (Ok y) found told read is lacks = absurd told
+  gives_wrong {U} {V} x record_bytes texts old new (Err fault) Memory told read is lacks =
+      subst (λ (f : TableFault). GivesRow {U = V} file definition row number n m old new (Err f)) (sym told) tt
+  gives_wrong {U} {V} x record_bytes texts old new (Err fault) Damage told read is lacks = absurd lacks
+  gives_wrong {U} {V} x record_bytes texts old new (Err fault) Default told read is lacks = absurd lacks
+  gives_wrong {U} {V} x record_bytes texts old new (Err fault) (Encoding at) told read is lacks =
       let same : record_bytes ≡ read.0 = read.2 in
-      let here = place (λ e. cc e) in
-      let wrong = subst₂ (λ (t : List (List ℕ)) (f : TableFault). LacksTexts t f) is here lacks in
-      subst (λ (f : TableFault). GivesRow {U = V} file definition row n m old new (Err f)) (sym (told ∙ here)) (record_bytes, read.1 ∙ ap Some (sym same), wrong)
+      let wrong = subst (λ (t : List (List ℕ)). LacksTexts number t (Encoding at)) is lacks in
+      subst (λ (f : TableFault). GivesRow {U = V} file definition row number n m old new (Err f)) (sym told) (wrong.0, (record_bytes, read.1 ∙ ap Some (sym same), wrong.1))
+
+  -- texts that are
+  pub gives_text : {U : Type 0} (x : U) (record_bytes : List ℕ) → Gives (record_of file row) n m [] record_bytes (Ok x) → AllText (texts_in definition row.key (values_of file record_bytes))
+      → ¬ HasWrongText file definition row
+  gives_text x record_bytes read text (bytes, is, wrong) =
+      let whole : Some record_bytes ≡ Some bytes = ap Some read.2 ∙ sym read.1 ∙ is in
+      let same : record_bytes ≡ bytes = cc in
+      wrong (subst (λ (b : List ℕ). AllText (texts_in definition row.key (values_of file b))) same text)
 
   -- a record that isn't read
   pub gives_unread : (U : Type 0) {V : Type 0} (before after : List ℕ) (old new : List (List (List ℕ))) (result : Result V TableFault) (found : TableFault) → IsErrAnd result (λ fault. fault ≡ found)
-      → Gives {U = U} (record_of file row) n m before after (Err found) → GivesRow file definition row n m old new result
+      → Gives {U = U} (record_of file row) n m before after (Err found) → GivesRow file definition row number n m old new result
   unfolding texts_of
   gives_unread U before after old new (Ok y) found told fails = absurd told
   gives_unread U before after old new (Err Damage) found told fails =
@@ -408,25 +416,33 @@ module _ (limit : Option ℕ) (file : List ℕ) (root : ℕ) (definition : Defin
 
   -- one of the rows fails, which makes all of them fail if a page does
   module _ (taken later : List Stored) (row : Stored) (sound : Bool) (walked : tree_rows limit file definition.tree root ≡ (taken ++ row ∷ later, sound)) where
-    pub adds_unread : {X : Type 0} (U V : Type 0) (x : X) (n m k : ℕ) (mid : List (List (List ℕ))) (result : Result V TableFault) (found : TableFault) → IsErrAnd result (λ fault. fault ≡ found) → n ≡ page_count file
-        → Gives (shown_rows_of file definition taken) n m old mid (Ok x) → GivesRow {U = U} file definition row m k mid new (Err found) → AddsRows limit file root definition old new result
-    adds_unread U V x n m k mid (Ok y) found told all_pages read fails = absurd told
-    adds_unread U V x n m k mid (Err Damage) found told all_pages read fails =
+    pub adds_unread : {X : Type 0} (U V : Type 0) (x : X) (number n m k : ℕ) (mid : List (List (List ℕ))) (result : Result V TableFault) (found : TableFault) → IsErrAnd result (λ fault. fault ≡ found) → n ≡ page_count file
+        → Gives (shown_rows_of file definition taken) n m old mid (Ok x) → All (λ other. ¬ HasWrongText file definition other) taken → number ≡ length taken + 1
+        → GivesRow {U = U} file definition row number m k mid new (Err found) → AddsRows limit file root definition old new result
+    adds_unread U V x number n m k mid (Ok y) found told all_pages read texts counted fails = absurd told
+    adds_unread U V x number n m k mid (Err Damage) found told all_pages read texts counted fails =
         let is : found ≡ Damage = sym told in
-        let damage = shown_less file definition taken row n m k old mid new U x later read (subst (λ (f : TableFault). GivesRow {U = U} file definition row m k mid new (Err f)) is fails) in
+        let damage = shown_less file definition taken row n m k old mid new U x later read (subst (λ (f : TableFault). GivesRow {U = U} file definition row number m k mid new (Err f)) is fails) in
         let unsound : IsUnsound file (shown_rows_of file definition (taken ++ row ∷ later)) = elim damage [ inl none ↦ inl none | inr less ↦ inr (omega (arith, less, all_pages)) ] in
         inr (subst (λ (rows : List Stored × Bool). IsUnsound file (shown_rows_of file definition rows.0)) (sym walked) unsound)
-    adds_unread U V x n m k mid (Err Default) found told all_pages read fails =
+    adds_unread U V x number n m k mid (Err Default) found told all_pages read texts counted fails =
         let is : found ≡ Default = sym told in
         let here = between taken later row in
         subst (λ (rows : List Stored × Bool). Any (IsOld file definition) rows.0) (sym walked)
-        (length taken, row, here.0, here.1, subst (λ (f : TableFault). GivesRow {U = U} file definition row m k mid new (Err f)) is fails)
-    adds_unread U V x n m k mid (Err (Encoding at)) found told all_pages read fails =
+        (length taken, row, here.0, here.1, subst (λ (f : TableFault). GivesRow {U = U} file definition row number m k mid new (Err f)) is fails)
+    adds_unread U V x number n m k mid (Err (Encoding at)) found told all_pages read texts counted fails =
         let is : found ≡ Encoding at = sym told in
-        let here = between taken later row in
-        subst (λ (rows : List Stored × Bool). Any (HasWrongText file definition) rows.0) (sym walked)
-        (length taken, row, here.0, here.1, subst (λ (f : TableFault). GivesRow {U = U} file definition row m k mid new (Err f)) is fails)
-    adds_unread U V x n m k mid (Err Memory) found told all_pages read fails = tt
+        let wrong = subst (λ (f : TableFault). GivesRow {U = U} file definition row number m k mid new (Err f)) is fails in
+        record {
+          before = taken;
+          row = row;
+          behind = later;
+          among = ap (λ (rows : List Stored × Bool). rows.0) walked;
+          wrong = wrong.1;
+          first = texts;
+          counted = wrong.0 ∙ counted;
+        }
+    adds_unread U V x number n m k mid (Err Memory) found told all_pages read texts counted fails = tt
 
 -- ---- why a table isn't shown, from why a part of it isn't
 
@@ -446,16 +462,16 @@ lacks_added U limit file root definition old new (Err fault) found told adds =
     lacks_rows U limit file root definition definition old new fault refl (subst (λ (f : TableFault). AddsRows {U = U} limit file root definition old new (Err f)) (sym told) adds)
 
 -- names of columns that aren't shown
-lacks_named : (limit : Option ℕ) (file : List ℕ) (root : ℕ) (definition : Definition) (fault : TableFault) → LacksTexts (names_in definition.columns) fault → LacksRows limit file root definition fault
+lacks_named : (limit : Option ℕ) (file : List ℕ) (root : ℕ) (definition : Definition) (fault : TableFault) → LacksTexts 0 (names_in definition.columns) fault → LacksRows limit file root definition fault
 lacks_named limit file root definition row.Damage lacks = absurd lacks
 lacks_named limit file root definition row.Default lacks = absurd lacks
 lacks_named limit file root definition (row.Encoding at) lacks = inl lacks
 lacks_named limit file root definition row.Memory lacks = tt
 
 pub lacks_names : {V : Type 0} (limit : Option ℕ) (file : List ℕ) (root : ℕ) (definition : Definition) (result : Result V TableFault) (found : TableFault) → IsErrAnd result (λ fault. fault ≡ found)
-    → LacksTexts (names_in definition.columns) found → IfErr result (LacksRows limit file root definition)
+    → LacksTexts 0 (names_in definition.columns) found → IfErr result (LacksRows limit file root definition)
 lacks_names limit file root definition (Ok x) found told lacks = absurd told
-lacks_names limit file root definition (Err fault) found told lacks = lacks_named limit file root definition fault (subst (LacksTexts (names_in definition.columns)) (sym told) lacks)
+lacks_names limit file root definition (Err fault) found told lacks = lacks_named limit file root definition fault (subst (LacksTexts 0 (names_in definition.columns)) (sym told) lacks)
 
 module _ (limit : Option ℕ) (file null_text : List ℕ) (entry : Entry) where
   lacks_definition : (fault : DatabaseFault) → LacksDefinition entry fault → LacksEntry limit file null_text entry fault
@@ -497,14 +513,14 @@ lacks_listed limit file name null_text entry (Err (Table row.Memory)) listed lac
 -- ---- the list of all
 
 -- an entry that isn't shown, among others
-pub lacks_line : {V : Type 0} (whole rest : List (List (List ℕ))) (line : List (List ℕ)) (entry : Entry) (result : Result V TableFault) (found : TableFault) → IsErrAnd result (λ fault. fault ≡ found)
-    → (HasWrongEntry (line ∷ rest) → HasWrongEntry whole) → entry_in line ≡ Some entry → LacksTexts (fields_of_entry entry) found → IfErr result (LacksEntries whole)
-lacks_line whole rest line entry (Ok x) found told goes is lacks = absurd told
-lacks_line whole rest line entry (Err row.Damage) found told goes is lacks = absurd (subst (LacksTexts (fields_of_entry entry)) (sym told) lacks)
-lacks_line whole rest line entry (Err row.Default) found told goes is lacks = absurd (subst (LacksTexts (fields_of_entry entry)) (sym told) lacks)
-lacks_line whole rest line entry (Err (row.Encoding at)) found told goes is lacks =
-    goes (inl (subst IsWrongEntry (sym is) (subst (LacksTexts (fields_of_entry entry)) (sym told) lacks)))
-lacks_line whole rest line entry (Err row.Memory) found told goes is lacks = tt
+pub lacks_line : {V : Type 0} (number : ℕ) (whole rest : List (List (List ℕ))) (line : List (List ℕ)) (entry : Entry) (result : Result V TableFault) (found : TableFault) → IsErrAnd result (λ fault. fault ≡ found)
+    → (HasWrongEntry (line ∷ rest) → HasWrongEntry whole) → entry_in line ≡ Some entry → LacksTexts number (fields_of_entry entry) found → IfErr result (LacksEntries whole)
+lacks_line number whole rest line entry (Ok x) found told goes is lacks = absurd told
+lacks_line number whole rest line entry (Err row.Damage) found told goes is lacks = absurd (subst (LacksTexts number (fields_of_entry entry)) (sym told) lacks)
+lacks_line number whole rest line entry (Err row.Default) found told goes is lacks = absurd (subst (LacksTexts number (fields_of_entry entry)) (sym told) lacks)
+lacks_line number whole rest line entry (Err (row.Encoding at)) found told goes is lacks =
+    goes (inl (subst IsWrongEntry (sym is) (subst (LacksTexts number (fields_of_entry entry)) (sym told) lacks).1))
+lacks_line number whole rest line entry (Err row.Memory) found told goes is lacks = tt
 
 -- entries that aren't listed, of which the fault is handed on
 pub lacks_lines : {V : Type 0} (schema : List (List (List ℕ))) (result : Result V TableFault) (found : TableFault) → IsErrAnd result (λ fault. fault ≡ found) → LacksEntries schema found → IfErr result (LacksEntries schema)

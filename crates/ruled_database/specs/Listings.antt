@@ -6,7 +6,7 @@ use Rattle.csv.specs.Records.{AllText, field_at}
 use Rattle.sqlite_sql.specs.Numeral.{int_at_front}
 use Rattle.ruled_database.specs.Definitions.{definition_of}
 use Rattle.ruled_database.specs.Files.{has_header, has_encoding}
-use Rattle.ruled_database.specs.Tables.{AreRows, HasRow, HasWrongText, IsDamaged, IsOld, names_in}
+use Rattle.ruled_database.specs.Tables.{AreRows, HasRow, IsDamaged, IsFirstWrong, IsOld, names_in, tree_rows}
 use Rattle.ruled_database.specs.declared.definition.Column.{Column}
 use Rattle.ruled_database.specs.declared.definition.Definition.{Definition}
 use Rattle.ruled_database.specs.declared.fault.DatabaseFault.{DatabaseFault}
@@ -192,11 +192,11 @@ LacksFile file Keyed = ⊥
 LacksFile file Computed = ⊥
 LacksFile file (Table fault) = ⊥
 
--- why a table's rows can't be read
+-- why a table's rows can't be read; the names of its columns are row 0
 abbrev pub LacksRows : Option ℕ → List ℕ → ℕ → Definition → TableFault → Type 0
 LacksRows limit file root definition row.Damage = IsDamaged limit file root definition
 LacksRows limit file root definition row.Default = HasRow limit file definition.tree root (IsOld file definition)
-LacksRows limit file root definition (row.Encoding at) = (¬ AllText (names_in definition.columns)) ⊎ HasRow limit file definition.tree root (HasWrongText file definition)
+LacksRows limit file root definition (row.Encoding at) = ((at ≡ 0) × ¬ AllText (names_in definition.columns)) ⊎ IsFirstWrong file definition (tree_rows limit file definition.tree root).0 at
 LacksRows limit file root definition row.Memory = ⊤
 
 abbrev pub LacksSchema : List ℕ → DatabaseFault → Type 0

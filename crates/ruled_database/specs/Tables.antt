@@ -1,5 +1,5 @@
 -- The rows of a table, as they are shown, and the texts of values.
-use Rattle.std.specs.Prelude.{◌++◌, ℕ, List, [], codes, ⊤, ◌+◌, ◌*◌, ◌==◌, Bool, true, false, ◌∷◌, map, if◌then◌else◌, ◌≡◌, ◌<◌, ◌⊎◌, ℤ, nat_le, nat_lt, length, Any, Option, Some, None}
+use Rattle.std.specs.Prelude.{◌++◌, ℕ, List, [], codes, ⊤, ◌+◌, ◌*◌, ◌==◌, Bool, true, false, ◌∷◌, map, if◌then◌else◌, ◌≡◌, ◌<◌, ◌⊎◌, ℤ, nat_le, nat_lt, length, All, Any, Option, Some, None}
 use Rattle.std.specs.Prelude.{Result, Ok, Err}
 use Rattle.std.specs.Fmt.{signed_decimal}
 use Rattle.hex.specs.Hex.{encode_lower}
@@ -72,12 +72,12 @@ shown_text null_text (Blob bytes) = codes "x'" ++ (encode_lower bytes ++ codes "
 
 -- ---- why texts are no row to show
 
--- one of them isn't UTF-8, unless memory was refused
-abbrev pub LacksTexts : List (List ℕ) → TableFault → Type 0
-LacksTexts texts fault.Damage = ⊥
-LacksTexts texts fault.Default = ⊥
-LacksTexts texts (fault.Encoding row) = ¬ AllText texts
-LacksTexts texts fault.Memory = ⊤
+-- one of them isn't UTF-8, in the row of this number, unless memory was refused
+abbrev pub LacksTexts : ℕ → List (List ℕ) → TableFault → Type 0
+LacksTexts number texts fault.Damage = ⊥
+LacksTexts number texts fault.Default = ⊥
+LacksTexts number texts (fault.Encoding at) = (at ≡ number) × ¬ AllText texts
+LacksTexts number texts fault.Memory = ⊤
 
 -- ---- the rows of a table
 
@@ -134,13 +134,13 @@ module _ (file : List ℕ) (definition : Definition) where
   abbrev pub HasWrongText : Stored → Type 0
   HasWrongText row = (bytes : List ℕ) × ((record_of file row).1 ≡ Some bytes) × ¬ AllText (texts_in definition row.key (values_of file bytes))
 
--- what reading a row gives
-abbrev pub GivesRow : {U : Type 0} → List ℕ → Definition → Stored → ℕ → ℕ → List (List (List ℕ)) → List (List (List ℕ)) → Result U TableFault → Type 0
-GivesRow file definition row before after old new (Ok x) = Gives {U = ℕ} (shown_row file definition row) before after old new (Ok 0)
-GivesRow file definition row before after old new (Err Damage) = Gives {U = ℕ} (shown_row file definition row) before after old new (Err Damage)
-GivesRow file definition row before after old new (Err Default) = IsOld file definition row
-GivesRow file definition row before after old new (Err (fault.Encoding at)) = HasWrongText file definition row
-GivesRow file definition row before after old new (Err Memory) = Unit {0}
+-- what reading a row of this number gives
+abbrev pub GivesRow : {U : Type 0} → List ℕ → Definition → Stored → ℕ → ℕ → ℕ → List (List (List ℕ)) → List (List (List ℕ)) → Result U TableFault → Type 0
+GivesRow file definition row number before after old new (Ok x) = Gives {U = ℕ} (shown_row file definition row) before after old new (Ok 0)
+GivesRow file definition row number before after old new (Err Damage) = Gives {U = ℕ} (shown_row file definition row) before after old new (Err Damage)
+GivesRow file definition row number before after old new (Err Default) = IsOld file definition row
+GivesRow file definition row number before after old new (Err (fault.Encoding at)) = (at ≡ number) × HasWrongText file definition row
+GivesRow file definition row number before after old new (Err Memory) = Unit {0}
 
 -- no tree has more levels
 abbrev pub most_levels : ℕ
@@ -168,10 +168,20 @@ IsDamaged limit file root definition =
 abbrev pub HasRow : Option ℕ → List ℕ → Tree → ℕ → (Stored → Type 0) → Type 0
 HasRow limit file tree root Is = Any Is (tree_rows limit file tree root).0
 
+-- a row is the first one that isn't in the encoding of the file, and has this number; rows are counted from 1
+pub record IsFirstWrong (file : List ℕ) (definition : Definition) (rows : List Stored) (number : ℕ) : Type 0 where
+  pub before : List Stored
+  pub row : Stored
+  pub behind : List Stored
+  pub among : rows ≡ before ++ row ∷ behind
+  pub wrong : HasWrongText file definition row
+  pub first : All (λ other. ¬ HasWrongText file definition other) before
+  pub counted : number ≡ length before + 1
+
 -- the rows stand behind others
 abbrev pub AddsRows : {U : Type 0} → Option ℕ → List ℕ → ℕ → Definition → List (List (List ℕ)) → List (List (List ℕ)) → Result U TableFault → Type 0
 AddsRows limit file root definition old new (Ok x) = (rows : List (List (List ℕ))) × AreRows limit file root definition rows × (new ≡ old ++ rows)
 AddsRows limit file root definition old new (Err Damage) = IsDamaged limit file root definition
 AddsRows limit file root definition old new (Err Default) = HasRow limit file definition.tree root (IsOld file definition)
-AddsRows limit file root definition old new (Err (fault.Encoding row)) = HasRow limit file definition.tree root (HasWrongText file definition)
+AddsRows limit file root definition old new (Err (fault.Encoding at)) = IsFirstWrong file definition (tree_rows limit file definition.tree root).0 at
 AddsRows limit file root definition old new (Err Memory) = Unit {0}

@@ -260,7 +260,7 @@ fn kind_name(kind: ItemKind) -> &'static str
 // What is shown of an entry, in this row.
 fn fields_in(alloc: Global, row: usize, listed: Listed<'_>) -> Result<TextRow, TableFault>
     ensures fields { IfOk result (λ fields. fields_of fields ≡ spec.fields_of_entry (entry_of listed.entry)) }
-    ensures fault { IfErr result (LacksTexts (spec.fields_of_entry (entry_of listed.entry))) }
+    ensures fault { IfErr result (LacksTexts row (spec.fields_of_entry (entry_of listed.entry))) }
 {
     let mut texts = RowBuffer::new(alloc);
     texts.push_field(listed.name.as_bytes())?;

@@ -1,10 +1,10 @@
 //! The rows of a table, as texts.
 
-ghost use Rattle.std.specs.Prelude.{◌≡◌, map, IfErr, IfOk, OnOk};
+ghost use Rattle.std.specs.Prelude.{◌≡◌, ◌+◌, length, map, IfErr, IfOk, OnOk};
 ghost use Rattle.csv.specs.Records.{fields_of};
 ghost use Rattle.sqlite_record.specs.Affinity.{as_real};
 ghost use Rattle.sqlite_value.specs.Value.{owned};
-ghost use Rattle.ruled_database.specs.Tables.{LacksTexts, AddsRows, GivesRow, names_in, rowid, texts_in, value_at, value_in};
+ghost use Rattle.ruled_database.specs.Tables.{LacksTexts, AddsRows, GivesRow, HasWrongText, names_in, rowid, texts_in, value_at, value_in};
 ghost use Rattle.ruled_database.specs.Trees.{stored_of};
 
 use crate::definition::{Column, Definition, Shown};
@@ -98,17 +98,20 @@ struct RowReader<'a> {
 }
 
 impl<'a> RowReader<'a> {
-    // Appends a row.
+    // Appends a row, which has this number.
     fn push_row(
         &mut self,
         alloc: Global,
         definition: &Definition,
         row: &StoredRow<'_>,
+        number: usize,
         rows: &mut Vec<TextRow>,
     ) -> Result<(), TableFault>
         ensures file { self.new.overflow.file ≡ self.old.overflow.file }
-        ensures rows { GivesRow self.old.overflow.file.bytes.now definition.now (stored_of row.now) self.old.overflow.left self.new.overflow.left
+        ensures rows { GivesRow self.old.overflow.file.bytes.now definition.now (stored_of row.now) number self.old.overflow.left self.new.overflow.left
             (map fields_of rows.old.items) (map fields_of rows.new.items) result }
+        ensures text { OnOk result (¬ HasWrongText self.old.overflow.file.bytes.now definition.now (stored_of row.now)) }
+        ensures count { OnOk result (length rows.new.items ≡ length rows.old.items + 1) }
     {
         self.record.clear();
         self.values.clear();
@@ -120,7 +123,7 @@ impl<'a> RowReader<'a> {
             return Err(TableFault::Default);
         }
         read_texts(alloc, definition, row.key, &self.values, &mut self.texts)?;
-        let fields = row_of(&self.texts, rows.len())?;
+        let fields = row_of(&self.texts, number)?;
         rows.push(fields)?;
         Ok(())
     }
@@ -144,8 +147,10 @@ pub(crate) fn push_rows(
         values: Row::new(alloc),
         texts: RowBuffer::new(alloc),
     };
+    let above = rows.len();
     while let Some(row) = stored.next()? {
-        reader.push_row(alloc, definition, &row, rows)?;
+        let number = rows.len() - above + 1;
+        reader.push_row(alloc, definition, &row, number, rows)?;
     }
     Ok(())
 }
@@ -154,7 +159,7 @@ pub(crate) fn push_rows(
 /// The names of columns.
 pub(crate) fn names_of(alloc: Global, columns: &[Column]) -> Result<TextRow, TableFault>
     ensures fields { IfOk result (λ fields. fields_of fields ≡ names_in columns.now) }
-    ensures fault { IfErr result (LacksTexts (names_in columns.now)) }
+    ensures fault { IfErr result (LacksTexts 0 (names_in columns.now)) }
 {
     let mut names = RowBuffer::new(alloc);
     for column in columns {

@@ -2,7 +2,7 @@
 
 ghost use Rattle.std.specs.Prelude.{◌≡◌, ◌≢◌, ◌++◌, ◌∷◌, [], codes, string_bytes, IfErr, IfOk, OnOk};
 ghost use Rattle.hex.specs.Hex.{encode_lower};
-ghost use Rattle.csv.specs.Records.{fields_of, partial_of};
+ghost use Rattle.csv.specs.Records.{AllText, fields_of, partial_of};
 ghost use Rattle.sqlite_value.specs.Value.{owned};
 ghost use Rattle.ruled_database.specs.Tables.{LacksTexts, shown_text};
 ghost use Rattle.ruled_database.specs.declared.fault.TableFault.{TableFault};
@@ -54,8 +54,8 @@ pub fn push_value(
 /// The texts as a row of this number. One that isn't UTF-8 is a fault.
 pub(crate) fn row_of(texts: &RowBuffer, row: usize) -> Result<TextRow, TableFault>
     ensures fields { IfOk result (λ fields. fields_of fields ≡ fields_of texts.now) }
-    ensures place { IfErr result (λ fault. fault ≢ TableFault.Memory → fault ≡ TableFault.Encoding row) }
-    ensures fault { IfErr result (LacksTexts (fields_of texts.now)) }
+    ensures text { IfOk result (λ fields. AllText (fields_of texts.now)) }
+    ensures fault { IfErr result (LacksTexts row (fields_of texts.now)) }
 {
     match texts.to_row()? {
         Some(fields) => Ok(fields),

@@ -6,14 +6,14 @@ use Rattle.std.specs.List.{list_any, prefix_len}
 use Rattle.std.specs.Option.{option_or}
 use Rattle.std.specs.Str.{str_eq_ignore_ascii_case}
 use Rattle.sqlite_resolve.specs.declared.error.CompileError.{CompileError}
-use Rattle.sqlite_resolve.specs.declared.error.CompileError.TheVariants.{NoSuchColumn, NoSuchTable}
+use Rattle.sqlite_resolve.specs.declared.error.CompileError.TheVariants.{NoSuchColumn, NoSuchFunction, NoSuchTable}
 use Rattle.sqlite_schema.specs.Names.{column_named, table_named}
 use Rattle.sqlite_schema.specs.declared.schema.Schema.{Schema}
 use Rattle.ruled_sql.specs.declared.lack.Meaning.{Meaning}
-use Rattle.ruled_sql.specs.declared.lack.Meaning.TheVariants.{Table, Column, Other}
+use Rattle.ruled_sql.specs.declared.lack.Meaning.TheVariants.{Table, Column, Function, Other}
 use Rattle.ruled_sql.specs.declared.lack.Mode.{Mode}
 use Rattle.ruled_sql.specs.declared.lack.Mode.TheVariants as mode
-use Rattle.ruled_sql.specs.declared.lack.TheConstants.{CALLS, LEADS, LONG_CALLS, OTHERS, WORDS}
+use Rattle.ruled_sql.specs.declared.lack.TheConstants.{ARROW, CALLS, FUNCTIONS, LEADS, LONG_CALLS, OTHERS, ROW, WORDS}
 
 -- ---- what is in quotes or a comment
 
@@ -44,13 +44,9 @@ after mode.Star b = if b == 42 then mode.Star else if b == 47 then mode.Between 
 
 abbrev pub may_begin : Mode → Bool
 may_begin mode.Between = true
-may_begin mode.Word = false
-may_begin (mode.Quotes close) = false
 may_begin mode.Dash = true
-may_begin mode.Line = false
 may_begin mode.Slash = true
-may_begin mode.Comment = false
-may_begin mode.Star = false
+may_begin _ = false
 
 abbrev pub is_in_word : Mode → Bool
 is_in_word mode.Word = true
@@ -69,6 +65,10 @@ Lack = List ℕ × List ℕ
 abbrev pub lack_named : List Lack → List ℕ → Option Lack
 lack_named [] word = None
 lack_named (lack ∷ others) word = if str_eq_ignore_ascii_case lack.0 word then Some lack else lack_named others word
+
+abbrev pub is_among : List (List ℕ) → List ℕ → Bool
+is_among [] word = false
+is_among (first ∷ others) word = if str_eq_ignore_ascii_case first word then true else is_among others word
 
 -- the word that a text begins with, and the text behind it and behind blanks
 abbrev pub word_to : Option ℕ → List ℕ → List ℕ
@@ -106,26 +106,37 @@ has_comma text = has_comma_in mode.Between 0 text
 abbrev pub is_call : List ℕ → Bool
 is_call behind = not (length behind == 0) && (slice_index_or behind 0 0 == 40)
 
--- what `sqlite` lacks of a call of this word, and of the word that a text begins with
+-- what `sqlite` lacks of a call of this word with a second argument: values in parentheses are those of a row, unless they are a query
+abbrev pub is_query : List ℕ → Bool
+is_query behind = str_eq_ignore_ascii_case (codes "select") (word_of (without_blanks (drop 1 behind)))
+
+abbrev pub lack_long : List ℕ → List ℕ → Option Lack
+lack_long word behind =
+    option_or (lack_named (map (λ it. (it.0.now, it.1.now)) LONG_CALLS) word)
+    (if is_among (map (λ it. it.now) LEADS) word && not (is_query behind) then Some (ROW.0.now, ROW.1.now) else None)
+
+-- of a call of this word, and of the operator or the word that a text begins with: `->` and `->>` have a `>` behind a `-`
 unfoldable pub lack_called : List ℕ → List ℕ → Option Lack
-lack_called word behind = option_or (lack_named (map (λ it. (it.0.now, it.1.now)) CALLS) word) (if has_comma behind then lack_named (map (λ it. (it.0.now, it.1.now)) LONG_CALLS) word else None)
+lack_called word behind = option_or (lack_named (map (λ it. (it.0.now, it.1.now)) CALLS) word) (if has_comma behind then lack_long word behind else None)
 
-unfoldable pub lack_at : List ℕ → Option Lack
-lack_at text = option_or (lack_named (map (λ it. (it.0.now, it.1.now)) WORDS) (word_of text)) (if is_call (behind_word text) then lack_called (word_of text) (behind_word text) else None)
+unfoldable pub is_arrow : Mode → ℕ → Bool
+is_arrow mode.Dash b = b == 62
+is_arrow _ b = false
 
--- of the first such word of a statement, outside of quotes and comments
+unfoldable pub lack_at : Mode → ℕ → List ℕ → Option Lack
+lack_at mode b text =
+    if is_arrow mode b then Some (ARROW.0.now, ARROW.1.now)
+    else option_or (lack_named (map (λ it. (it.0.now, it.1.now)) WORDS) (word_of text)) (if is_call (behind_word text) then lack_called (word_of text) (behind_word text) else None)
+
+-- of the first of them in a statement, outside of quotes and comments
 abbrev pub lack_from : Mode → List ℕ → Option Lack
 lack_from mode [] = None
-lack_from mode (b ∷ bs) = option_or (if may_begin mode then lack_at (b ∷ bs) else None) (lack_from (after mode b) bs)
+lack_from mode (b ∷ bs) = option_or (if may_begin mode then lack_at mode b (b ∷ bs) else None) (lack_from (after mode b) bs)
 
 unfoldable pub lack_in : List ℕ → Option Lack
 lack_in statement = lack_from mode.Between statement
 
--- ---- names of tables and columns that there aren't
-
-abbrev pub is_among : List (List ℕ) → List ℕ → Bool
-is_among [] word = false
-is_among (first ∷ others) word = if str_eq_ignore_ascii_case first word then true else is_among others word
+-- ---- names of tables, columns and functions that there aren't
 
 -- a table or a column has this name; or a view may have it, whose columns aren't known
 abbrev pub is_known : Schema → List ℕ → Bool
@@ -193,35 +204,43 @@ gives schema query name = gives_from schema mode.Between Other query name
 abbrev pub says_otherwise : ℕ → Bool
 says_otherwise next = next == 40 || next == 46 || next == 39 || next == 36
 
--- a text begins with a word that may be one
-abbrev pub begins_name : ℕ → List ℕ → Bool
-begins_name b text =
+-- a name of what is wanted may have this text behind it
+unfoldable pub may_follow : Meaning → List ℕ → Bool
+may_follow Function behind = is_call behind
+may_follow _ behind = not (says_otherwise (slice_index_or behind 0 0))
+
+-- a text begins with a word that may be one of what is wanted
+abbrev pub begins_name : Meaning → ℕ → List ℕ → Bool
+begins_name wanted b text =
     if not (is_word b) || is_ascii_digit b then false
     else if is_among (map (λ it. it.now) LEADS) (word_of text) then false
     else if is_among (map (λ it. it.now) OTHERS) (word_of text) then false
-    else not (says_otherwise (slice_index_or (behind_word text) 0 0))
+    else may_follow wanted (behind_word text)
 
+-- a function is called where a column may be
 abbrev pub is_meant : Meaning → Meaning → Bool
 is_meant Table Table = true
 is_meant Column Column = true
+is_meant Column Function = true
 is_meant _ _ = false
 
 unfoldable pub may_name : Meaning → Meaning → Mode → ℕ → List ℕ → Bool
-may_name meaning wanted mode b text = may_begin mode && (is_meant meaning wanted && begins_name b text)
+may_name meaning wanted mode b text = may_begin mode && (is_meant meaning wanted && begins_name wanted b text)
 
--- how many bytes are left of a text that begins with a name that neither the database has, nor is another one of its table, nor the query gives
-unfoldable pub stray_at : Schema → List ℕ → List ℕ → List ℕ → Option ℕ
-stray_at schema table query text =
-    if is_known schema (word_of text) then None
-    else if str_eq_ignore_ascii_case (word_of text) table then None
-    else if gives schema query (word_of text) then None
-    else Some (length text)
+-- what is wanted has this name: a function of `sqlite`, or one of a query with `with`; or the database has it, or its table, or the query gives it
+abbrev pub is_taken : Schema → List ℕ → List ℕ → Meaning → List ℕ → Bool
+is_taken schema table query Function name = is_among (map (λ it. it.now) FUNCTIONS) name || gives schema query (codes "with")
+is_taken schema table query _ name = is_known schema name || (str_eq_ignore_ascii_case name table || gives schema query name)
 
--- of the first such name of a query that is one of a table or of a column, as wanted
+-- how many bytes are left of a text that begins with a name that isn't taken
+unfoldable pub stray_at : Schema → List ℕ → List ℕ → Meaning → List ℕ → Option ℕ
+stray_at schema table query wanted text = if is_taken schema table query wanted (word_of text) then None else Some (length text)
+
+-- of the first such name of a query that is one of what is wanted
 abbrev pub stray_from : Schema → List ℕ → List ℕ → Meaning → Mode → Meaning → List ℕ → Option ℕ
 stray_from schema table query wanted mode meaning [] = None
 stray_from schema table query wanted mode meaning (b ∷ bs) =
-    option_or (if may_name meaning wanted mode b (b ∷ bs) then stray_at schema table query (b ∷ bs) else None)
+    option_or (if may_name meaning wanted mode b (b ∷ bs) then stray_at schema table query wanted (b ∷ bs) else None)
     (stray_from schema table query wanted (after mode b) (meaning_after schema meaning mode b (b ∷ bs)) bs)
 
 unfoldable pub stray_in : Schema → List ℕ → List ℕ → Meaning → Option ℕ
@@ -231,4 +250,5 @@ stray_in schema table query wanted = stray_from schema table query wanted mode.B
 abbrev pub missing_by : CompileError → Meaning
 missing_by NoSuchTable = Table
 missing_by NoSuchColumn = Column
+missing_by NoSuchFunction = Function
 missing_by _ = Other

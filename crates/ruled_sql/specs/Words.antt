@@ -6,7 +6,7 @@ use Rattle.ruled_sql.specs.declared.fault.QueryFault.TheVariants.{Refused, Missi
 use Rattle.ruled_sql.specs.declared.fault.SqlFault.{SqlFault}
 use Rattle.ruled_sql.specs.declared.fault.SqlFault.TheVariants as sql
 use Rattle.ruled_sql.specs.Lacks.{Lack, lack_in}
-use Rattle.ruled_sql.specs.declared.lack.Meaning.TheVariants.{Table}
+use Rattle.ruled_sql.specs.declared.lack.Meaning.TheVariants.{Function, Table}
 use Rattle.sqlite.specs.declared.error.Error.TheVariants.{SqlInputError, SqliteFailure}
 use Rattle.sqlite.specs.declared.error.ErrorCode.TheVariants.{NoClock}
 use Rattle.sqlite_resolve.specs.declared.error.CompileError.TheVariants.{Exists, NoSuchFunction, Parse, Unsupported}
@@ -16,6 +16,7 @@ use Rattle.sqlite_syntax.specs.declared.error.ParseError.TheVariants as parse
 abbrev pub query_fault_text : QueryFault → Option (List ℕ)
 query_fault_text (Refused error) = None
 query_fault_text (Missing Table left) = Some (codes "no such table")
+query_fault_text (Missing Function left) = Some (codes "no such function")
 query_fault_text (Missing _ left) = Some (codes "no such column")
 query_fault_text (Limit steps) = Some (codes "the query takes more than " ++ (decimal steps ++ codes " steps; see --limit-steps"))
 query_fault_text Change = Some (codes "the query changes the database")
@@ -47,6 +48,7 @@ may_lack (sql.Query (Refused (SqlInputError (Parse (parse.Syntax left))))) = tru
 may_lack (sql.Query (Refused (SqlInputError (Parse (parse.Unsupported left))))) = true
 may_lack (sql.Query (Refused (SqlInputError NoSuchFunction))) = true
 may_lack (sql.Query (Refused (SqliteFailure NoClock))) = true
+may_lack (sql.Query (Missing Function left)) = true
 may_lack (sql.Query (Refused (SqlInputError Unsupported))) = true
 may_lack fault = false
 

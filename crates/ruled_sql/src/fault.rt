@@ -129,6 +129,7 @@ impl Display for QueryFault {
             }
             QueryFault::Refused(error) => write!(f, "the query fails: {error}"),
             QueryFault::Missing(Meaning::Table, _) => f.write_str("no such table"),
+            QueryFault::Missing(Meaning::Function, _) => f.write_str("no such function"),
             QueryFault::Missing(_, _) => f.write_str("no such column"),
             QueryFault::Encoding(row) => write!(f, "row {row}: not UTF-8"),
             QueryFault::Change => f.write_str("the query changes the database"),
@@ -202,7 +203,10 @@ fn may_lack(fault: SqlFault) -> bool
                 | CompileError::NoSuchFunction
                 | CompileError::Unsupported
         ),
-        SqlFault::Query(QueryFault::Refused(Error::SqliteFailure(ErrorCode::NoClock))) => true,
+        SqlFault::Query(
+            QueryFault::Refused(Error::SqliteFailure(ErrorCode::NoClock))
+            | QueryFault::Missing(Meaning::Function, _),
+        ) => true,
         _ => false,
     }
 }

@@ -177,6 +177,12 @@ const LONG_CALLS: [Lack; 6] = [
     ("trim", "with characters to remove"),
 ];
 
+/// The operators `->` and `->>`.
+const ARROW: Lack = ("->", "JSON");
+
+/// Values of a row, as in `(x, y) in ..`.
+const ROW: Lack = ("(x, y)", "row values; try x = .. and y = ..");
+
 /// What a word at a place of a query means, if it has no other meaning.
 #[derive(Clone, Copy)]
 pub enum Meaning {
@@ -184,9 +190,41 @@ pub enum Meaning {
     Table,
     /// A column.
     Column,
+    /// A function.
+    Function,
     /// Something else, as a name that the query gives.
     Other,
 }
+
+/// Functions that `sqlite` has.
+const FUNCTIONS: [&str; 26] = [
+    "abs",
+    "avg",
+    "coalesce",
+    "count",
+    "group_concat",
+    "hex",
+    "if",
+    "ifnull",
+    "iif",
+    "instr",
+    "length",
+    "lower",
+    "ltrim",
+    "max",
+    "min",
+    "nullif",
+    "replace",
+    "round",
+    "rtrim",
+    "substr",
+    "substring",
+    "sum",
+    "total",
+    "trim",
+    "typeof",
+    "upper",
+];
 
 /// Words that are before a value.
 const LEADS: [&str; 21] = [
@@ -213,9 +251,11 @@ const LEADS: [&str; 21] = [
     "where",
 ];
 
-/// Other words that are no names of tables and columns.
-const OTHERS: [&str; 17] = [
+/// Other words that are no names of tables, columns and functions.
+const OTHERS: [&str; 20] = [
     "_rowid_",
+    "cast",
+    "check",
     "conflict",
     "default",
     "exists",
@@ -231,6 +271,7 @@ const OTHERS: [&str; 17] = [
     "sqlite_master",
     "sqlite_schema",
     "true",
+    "unique",
     "values",
 ];
 
@@ -390,8 +431,18 @@ fn has_comma(mut text: &[u8]) -> bool
     false
 }
 
+// Whether these parentheses have a query.
+fn is_query(behind: &[u8]) -> bool
+    ensures { result ≡ spec.is_query behind.now }
+{
+    is_same(
+        "select",
+        word_of(without_blanks(behind.get(1..).unwrap_or(&[]))),
+    )
+}
+
 #[tactic(auto, unfolding(crate::specs::Lacks::lack_called))]
-// What `sqlite` lacks of a call of this word.
+// What `sqlite` lacks of a call of this word, or of the values of a row behind it.
 fn lack_called(word: &[u8], behind: &[u8]) -> Option<Lack>
     ensures { option_map (λ it. (it.0.now, it.1.now)) result ≡ spec.lack_called word.now behind.now }
 {
@@ -399,17 +450,39 @@ fn lack_called(word: &[u8], behind: &[u8]) -> Option<Lack>
     if lack.is_some() || !has_comma(behind) {
         return lack;
     }
-    lack_named(&LONG_CALLS, word)
+    let lack = lack_named(&LONG_CALLS, word);
+    if lack.is_some() {
+        return lack;
+    }
+    if is_among(&LEADS, word) && !is_query(behind) {
+        return Some(ROW);
+    }
+    None
+}
+
+#[tactic(auto, unfolding(crate::specs::Lacks::is_arrow))]
+// Whether this byte, which is read so, is behind the first one of `->`.
+fn is_arrow(mode: Mode, byte: u8) -> bool
+    ensures { result ≡ spec.is_arrow mode byte }
+{
+    match mode {
+        Mode::Dash => byte == b'>',
+        _ => false,
+    }
 }
 
 #[tactic(auto, unfolding(crate::specs::Lacks::lack_at))]
-// What `sqlite` lacks of the word that a text begins with, or of its call.
-fn lack_at(text: &[u8]) -> Option<Lack>
-    ensures { option_map (λ it. (it.0.now, it.1.now)) result ≡ spec.lack_at text.now }
+// What `sqlite` lacks of the operator that a byte ends, which is read so, of the word that a text begins with, or of its call.
+fn lack_at(mode: Mode, byte: u8, text: &[u8]) -> Option<Lack>
+    ensures { option_map (λ it. (it.0.now, it.1.now)) result ≡ spec.lack_at mode byte text.now }
 {
+    if is_arrow(mode, byte) {
+        return Some(ARROW);
+    }
     let word = word_of(text);
-    if let Some(lack) = lack_named(&WORDS, word) {
-        return Some(lack);
+    let lack = lack_named(&WORDS, word);
+    if lack.is_some() {
+        return lack;
     }
     let behind = behind_word(text);
     if is_call(behind) {
@@ -419,14 +492,14 @@ fn lack_at(text: &[u8]) -> Option<Lack>
 }
 
 #[tactic(auto, unfolding(crate::specs::Lacks::lack_in))]
-/// What `sqlite` lacks of the first such word of a statement.
+/// What `sqlite` lacks of the first such operator or word of a statement.
 pub(crate) fn lack_in(mut text: &[u8]) -> Option<Lack>
     ensures { option_map (λ it. (it.0.now, it.1.now)) result ≡ spec.lack_in text.entry.now }
 {
     let mut mode = Mode::Between;
     while let [byte, rest @ ..] = text {
         if mode.may_begin() {
-            if let Some(lack) = lack_at(text) {
+            if let Some(lack) = lack_at(mode, *byte, text) {
                 return Some(lack);
             }
         }
@@ -559,9 +632,10 @@ impl Meaning {
     {
         let is_wanted = matches!(
             (self, wanted),
-            (Meaning::Table, Meaning::Table) | (Meaning::Column, Meaning::Column)
+            (Meaning::Table, Meaning::Table)
+                | (Meaning::Column, Meaning::Column | Meaning::Function)
         );
-        mode.may_begin() && is_wanted && begins_name(byte, text)
+        mode.may_begin() && is_wanted && begins_name(wanted, byte, text)
     }
 }
 
@@ -589,9 +663,20 @@ fn says_otherwise(next: u8) -> bool
     matches!(next, b'(' | b'.' | b'\'' | b'$')
 }
 
-// Whether a text begins with what may be the name of a table or a column.
-fn begins_name(byte: u8, text: &[u8]) -> bool
-    ensures { result ≡ spec.begins_name byte text.now }
+#[tactic(auto, unfolding(crate::specs::Lacks::may_follow))]
+// Whether this text may be behind a name of what is wanted: a function is called.
+fn may_follow(wanted: Meaning, behind: &[u8]) -> bool
+    ensures { result ≡ spec.may_follow wanted behind.now }
+{
+    match wanted {
+        Meaning::Function => is_call(behind),
+        _ => !says_otherwise(behind.get(0).copied().unwrap_or(0)),
+    }
+}
+
+// Whether a text begins with what may be a name of what is wanted.
+fn begins_name(wanted: Meaning, byte: u8, text: &[u8]) -> bool
+    ensures { result ≡ spec.begins_name wanted byte text.now }
 {
     if !is_word(byte) || byte.is_ascii_digit() {
         return false;
@@ -603,31 +688,40 @@ fn begins_name(byte: u8, text: &[u8]) -> bool
     if is_among(&OTHERS, word) {
         return false;
     }
-    !says_otherwise(behind_word(text).get(0).copied().unwrap_or(0))
+    may_follow(wanted, behind_word(text))
+}
+
+// Whether there is something of this name that is wanted, or the query may give it.
+fn is_taken(schema: &Schema, table: &[u8], query: &[u8], wanted: Meaning, name: &[u8]) -> bool
+    ensures { result ≡ spec.is_taken schema.now table.now query.now wanted name.now }
+{
+    match wanted {
+        Meaning::Function => is_among(&FUNCTIONS, name) || gives(schema, query, b"with"),
+        _ => {
+            is_known(schema, name) || name.eq_ignore_ascii_case(table) || gives(schema, query, name)
+        }
+    }
 }
 
 #[tactic(auto, unfolding(crate::specs::Lacks::stray_at))]
-// How many bytes a text of a query has that begins with a name, unless the database or its table has the name, or the query
-// gives it.
-fn stray_at(schema: &Schema, table: &[u8], query: &[u8], text: &[u8]) -> Option<usize>
-    ensures { result ≡ spec.stray_at schema.now table.now query.now text.now }
+// How many bytes a text of a query has that begins with a name of what is wanted, unless it is taken.
+fn stray_at(
+    schema: &Schema,
+    table: &[u8],
+    query: &[u8],
+    wanted: Meaning,
+    text: &[u8],
+) -> Option<usize>
+    ensures { result ≡ spec.stray_at schema.now table.now query.now wanted text.now }
 {
-    let name = word_of(text);
-    if is_known(schema, name) {
-        return None;
-    }
-    if name.eq_ignore_ascii_case(table) {
-        return None;
-    }
-    if gives(schema, query, name) {
+    if is_taken(schema, table, query, wanted, word_of(text)) {
         return None;
     }
     Some(text.len())
 }
 
 #[tactic(auto, unfolding(crate::specs::Lacks::stray_in))]
-/// How many bytes of a query are left from the first name of what is wanted on that neither the database nor its table has,
-/// nor the query gives.
+/// How many bytes of a query are left from the first name of what is wanted on that isn't taken.
 pub(crate) fn stray_in(
     schema: &Schema,
     table: &[u8],
@@ -640,7 +734,7 @@ pub(crate) fn stray_in(
     let mut text = query;
     while let [byte, rest @ ..] = text {
         if meaning.may_name(wanted, mode, *byte, text) {
-            if let Some(left) = stray_at(schema, table, query, text) {
+            if let Some(left) = stray_at(schema, table, query, wanted, text) {
                 return Some(left);
             }
         }
@@ -658,6 +752,7 @@ pub(crate) fn missing_by(error: CompileError) -> Meaning
     match error {
         CompileError::NoSuchTable => Meaning::Table,
         CompileError::NoSuchColumn => Meaning::Column,
+        CompileError::NoSuchFunction => Meaning::Function,
         _ => Meaning::Other,
     }
 }

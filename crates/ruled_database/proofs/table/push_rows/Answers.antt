@@ -1,8 +1,10 @@
-use Rattle.std.proofs.Common.{◌≡◌, ◌∙◌, ◌++◌, ◌∷◌, ℕ, List, [], Bool, Option, None, Some, Ok, Err, map, length, true, refl, sym, ap, subst, append_assoc, arith, rules}
+use Rattle.std.proofs.Common.{◌≡◌, ◌∙◌, ◌++◌, ◌∷◌, ℕ, List, [], Bool, Option, None, Some, Ok, Err, map, length, true, refl, sym, ap, subst, append_assoc, ◌+◌, ◌-◌, arith, rules}
+use Rattle.std.proofs.lemmas.List.{length-append}
+use Rattle.std.proofs.lemmas.List.Elements.{All-push}
 use Rattle.csv.specs.Records.{fields_of}
 use Rattle.ruled_database.specs.Files.{page_count}
 use Rattle.ruled_database.specs.Trees.{Gives, Stored, rows_to_come, stored_of, with_row}
-use Rattle.ruled_database.specs.Tables.{GivesRow, shown_row, shown_rows_of}
+use Rattle.ruled_database.specs.Tables.{GivesRow, HasWrongText, shown_row, shown_rows_of}
 use Rattle.ruled_database.specs.declared.file.File.{File}
 use Rattle.ruled_database.specs.declared.tree.StoredRow.{StoredRow}
 use Rattle.ruled_database.proofs.Tabling.{adds_all, adds_no_more, adds_none, adds_unread, gives_nothing, shown_more}
@@ -22,6 +24,8 @@ loop-reader-init c =
       file = c.of-2.ensures.file;
       taken = [];
       walked = sym c.in_ok-stored.ensures.rows;
+      texts = λ i default less. absurd (omega (arith, less));
+      counted = omega arith;
       rows = subst (λ (n : ℕ). Gives {U = ℕ} (shown_rows_of file definition []) (page_count file) n old old (Ok 0)) (sym c.of-2.ensures.left) (gives_nothing (page_count file) old);
     }
 
@@ -39,11 +43,15 @@ loop-reader-preserved c =
     let mid = map fields_of l.rows.items in
     let new = map fields_of c.push_row.new.rows.items in
     let nought : ℕ = 0 in
+    let text = subst (λ (it : File). ¬ HasWrongText it.bytes.now definition row) l.invariant.file c.in_ok-push_row.ensures.text in
+    let counted : length c.push_row.new.rows.items ≡ length l.rows.items + 1 = c.in_ok-push_row.ensures.count in
     let here = subst (λ (it : File). Gives {U = ℕ} (shown_row it.bytes.now definition row) l.reader.overflow.left c.push_row.new.self.overflow.left mid new (Ok 0)) l.invariant.file c.in_ok-push_row.ensures.rows in
     record {
       file = c.push_row.ensures.file ∙ l.invariant.file;
       taken = taken ++ row ∷ [];
       walked = l.invariant.walked ∙ ap (λ (rows : List Stored × Bool). (taken ++ rows.0, rows.1)) come ∙ ap (λ (rows : List Stored). (rows, later.1)) (sym (append_assoc taken (row ∷ []) later.0));
+      texts = All-push (λ (other : Stored). ¬ HasWrongText file definition other) taken row l.invariant.texts text;
+      counted = omega (arith, counted, l.invariant.counted, length-append taken (row ∷ []));
       rows = shown_more file definition taken row (page_count file) l.reader.overflow.left c.push_row.new.self.overflow.left old mid new nought nought l.invariant.rows here;
     }
 
@@ -74,9 +82,9 @@ returns-in_err-push_row c =
     let new = map fields_of c.push_row.new.rows.items in
     let fault = c.in_err-push_row.field-0.0 in
     let nought : ℕ = 0 in
-    let fails = subst (λ (it : File). GivesRow {U = Unit {0}} it.bytes.now definition row l.reader.overflow.left c.push_row.new.self.overflow.left mid new (Err fault)) l.invariant.file c.in_err-push_row.ensures.rows in
+    let fails = subst (λ (it : File). GivesRow {U = Unit {0}} it.bytes.now definition row (c.len.result - c.len-above.result + 1) l.reader.overflow.left c.push_row.new.self.overflow.left mid new (Err fault)) l.invariant.file c.in_err-push_row.ensures.rows in
     adds_unread c.args.limit file c.args.root definition (map fields_of c.args.rows.now.items) new taken later.0 row later.1 (l.invariant.walked ∙ ap (λ (rows : List Stored × Bool). (taken ++ rows.0, rows.1)) come)
-    (Unit {0}) (Unit {0}) nought (page_count file) l.reader.overflow.left c.push_row.new.self.overflow.left mid c.from_residual-in_err-push_row.result fault c.from_residual-in_err-push_row.ensures.1 refl l.invariant.rows fails
+    (Unit {0}) (Unit {0}) nought (c.len.result - c.len-above.result + 1) (page_count file) l.reader.overflow.left c.push_row.new.self.overflow.left mid c.from_residual-in_err-push_row.result fault c.from_residual-in_err-push_row.ensures.1 refl l.invariant.rows l.invariant.texts (omega (arith, l.invariant.counted, c.len.ensures)) fails
 
 pub returns : goal.returns
 returns c =
