@@ -27,6 +27,8 @@ use Rattle.ruled_io.specs.declared.output.WriteFault.TheVariants as write
 use Rattle.ruled_io.specs.declared.fault.StreamedFault.{StreamedFault}
 use Rattle.ruled_io.specs.declared.fault.StreamedFault.TheVariants as streamed
 use Rattle.std.specs.Char.{encode_utf8}
+use Rattle.std.specs.declared.io.ErrorKind.{ErrorKind}
+use Rattle.std.specs.declared.io.ErrorKind.TheVariants as kind
 use Rattle.std.specs.List.{flat_map}
 use Rattle.pg_fit.specs.Controls.{sign_of}
 use Rattle.pg_layout.specs.Text.{Text}
@@ -52,6 +54,7 @@ status_of_input Memory = 4
 abbrev pub status_of : RunFault → ℕ
 status_of (Input fault) = status_of_input fault
 status_of (Read read.Encoding) = 2
+status_of (Read read.Folder) = 5
 status_of (Read read.Failed) = 5
 status_of Closed = 0
 status_of Write = 5
@@ -111,6 +114,13 @@ is_early (Input fault) = not (is_memory fault)
 is_early (Read fault) = true
 is_early Closed = false
 is_early Write = false
+
+-- a read failed with an error of this kind
+abbrev pub fault_of_read : ErrorKind → RunFault
+fault_of_read kind.OutOfMemory = Input Memory
+fault_of_read kind.InvalidData = Read read.Encoding
+fault_of_read kind.IsADirectory = Read read.Folder
+fault_of_read kind = Read read.Failed
 
 -- memory or a read failed
 abbrev pub IsOfRead : RunFault → Type 0

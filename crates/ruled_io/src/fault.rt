@@ -74,6 +74,8 @@ pub enum InputFault {
 pub enum ReadFault {
     /// Bytes spell no character in the encoding of the input.
     Encoding,
+    /// The input is a folder.
+    Folder,
     /// Anything else.
     Failed,
 }
@@ -368,7 +370,7 @@ impl RunFault {
             RunFault::Input(fault) => fault.status(),
             RunFault::Read(ReadFault::Encoding) => 2,
             RunFault::Closed => 0,
-            RunFault::Read(ReadFault::Failed) | RunFault::Write => 5,
+            RunFault::Read(ReadFault::Folder | ReadFault::Failed) | RunFault::Write => 5,
         }
     }
 
@@ -405,6 +407,7 @@ impl RunFault {
             RunFault::Read(ReadFault::Encoding) => {
                 writeln!(err, "not UTF-16: a lone surrogate or an odd byte")?
             }
+            RunFault::Read(ReadFault::Folder) => writeln!(err, "the input is a folder")?,
             RunFault::Read(ReadFault::Failed) => writeln!(err, "read failed")?,
             RunFault::Closed | RunFault::Write => writeln!(err, "write failed")?,
         }

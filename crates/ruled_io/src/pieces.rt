@@ -5,7 +5,7 @@ ghost use Rattle.std.specs.IoError.{error_kind};
 ghost use Rattle.std.specs.Io.KnownBytes.{Consumes, IsAtEnd};
 ghost use Rattle.csv.specs.Records.{fields_of};
 ghost use Rattle.ruled_json.specs.Streamed.{LineRules};
-ghost use Rattle.ruled_io.specs.Faults.{IsOfRead, is_read, read_part};
+ghost use Rattle.ruled_io.specs.Faults.{IsOfRead, fault_of_read, is_read, read_part};
 ghost use Rattle.ruled_io.specs.Reading.{BeginsSo, GoesOn, ReadsFront, ReportsRead, Stands, read_failure, left_in};
 ghost use Rattle.ruled_io.specs.declared.formats.Format.{Format};
 ghost use Rattle.ruled_io.specs.declared.reader.Reading.{Reading};
@@ -44,13 +44,14 @@ impl<R: Read + Drop> Pieces<R> {
 
     // Notes that a read failed with this error, and returns the fault of the run.
     fn failed(&mut self, error: io::Error) -> RunFault
+        ensures fault { result ≡ fault_of_read (error_kind error) }
         ensures failed { IsOfRead result }
         ensures noted { is_read result ≡ true → read_failure self.new ≡ read_part result }
-        ensures encoding { error_kind error ≡ ErrorKind.InvalidData → result ≡ RunFault.Read ReadFault.Encoding }
     {
         let fault = match error.kind() {
             ErrorKind::OutOfMemory => return RunFault::Input(InputFault::Memory),
             ErrorKind::InvalidData => ReadFault::Encoding,
+            ErrorKind::IsADirectory => ReadFault::Folder,
             _ => ReadFault::Failed,
         };
         self.failure = Some(fault);
