@@ -1,14 +1,14 @@
--- Rows whose texts are fields of records, with names, sizes and escapes, those that are shown, how many columns fit in a line, and records of plain ASCII.
+-- Rows whose texts are fields of records, with names, sizes and escapes, those that are shown, how many columns fit in a line, records of plain ASCII, and how many columns a text takes at most.
 use Rattle.std.proofs.Common.{◌≡◌, ◌≢◌, ◌<◌, ◌≤◌, ◌∙◌, ◌∷◌, ℕ, zero, suc, Bool, true, false, List, Option, [], map, length, slice_index_or, All, encode_utf8_all, flat_map, refl, sym, ap, arith, ap₂, Some, None, ◌==◌, ◌||◌, ◌++◌, not, chars, encode_utf8, IsUtf8, ◌+◌, ◌-◌, ◌/◌, max, take, drop, get_or, append_assoc, nat_lt, slice_index, sum_by, zero-add, inl, inr, cond, length-append}
 use Rattle.std.proofs.lemmas.List.{length-map, drop-map, drop_more, map-append, take-map, take-take, take_more}
 use Rattle.std.proofs.lemmas.List.Elements.{All-map}
 use Rattle.std.proofs.Math.Utf8.{encode}
-use Rattle.std.proofs.lemmas.Str.{chars-encodes, chars-nil, encodes-chars, chars-IsAscii, IsUtf8-from_ascii}
+use Rattle.std.proofs.lemmas.Str.{chars-encodes, chars-nil, encodes-chars, chars-IsAscii, IsUtf8-from_ascii, length-encode, len_utf8_bounds}
 use Rattle.std.specs.Prelude.{if◌then◌else◌, option_map, slice_get, nat_le}
 use Rattle.csv.specs.Records.{Row, fields_of, field_at, cut_from}
 use Rattle.pg_layout.specs.Records.{columns_of}
 use Rattle.pg_layout.specs.Colors.{Color}
-use Rattle.pg_layout.specs.Text.{Text, is_plain_byte, lines_of, text_width_of}
+use Rattle.pg_layout.specs.Text.{Text, is_plain_byte, lines_of, text_width_of, greatest, width_of}
 use Rattle.pg_layout.specs.declared.position.Position.{Position}
 use Rattle.pg_config.specs.Config.{Config}
 use Rattle.pg_fit.specs.Controls.{sign_of, visible_text, is_control, is_letter, letters_width}
@@ -20,7 +20,7 @@ use Rattle.ruled_table.specs.declared.options.Options.{Options}
 use Rattle.ruled_table.specs.declared.blocks.Blocks.{Blocks}
 use Rattle.std.proofs.lemmas.Option.{same_Some, none-some}
 use Rattle.std.specs.List.{list_all, range_with_len, fold, zip, join_with_byte}
-use Rattle.std.proofs.lemmas.Bool.{and_parts, true≢false, and_from, cases_Bool}
+use Rattle.std.proofs.lemmas.Bool.{and_parts, true≢false, and_from, cases_Bool, cases_lt}
 use Rattle.std.proofs.lemmas.List.FromFn.{map-range_with_len_more, get_or-range_with_len, length-range_with_len}
 use Rattle.ruled_table.specs.Arranged.{both_ends, gap_of, last_of}
 use Rattle.std.proofs.lemmas.List.Sums.{fold-append, position_or_len_is, sum_by-append, sum_by-cons}
@@ -43,6 +43,14 @@ use Rattle.pg_fit.specs.declared.wrapping.Breaking.{Breaking}
 use Rattle.pg_fit.specs.declared.wrapping.Breaking.TheVariants.{Anywhere, BetweenWords}
 use Rattle.pg_fit.specs.Wrapping.{Piece, fits as fits_in, takes, filled, characters, words, indented, parted, pieces, wrapped_line, wrapped, before_words}
 use Rattle.pg_fit.proofs.LawsOfTexts.{EachLine, EachTexts, lines_of-lines, lines_stand, words-texts, indented-texts}
+use Rattle.std.specs.Char.{len_utf8}
+use Rattle.unicode_width.specs.Kind.{kind}
+use Rattle.unicode_width.specs.Width.{Reading, alone, before_alef, if_kept, in_context, joined_or, joins, of_kind, past_emoji, past_selectors, plain, read_before, step, str_width}
+use Rattle.unicode_width.specs.declared.kind.Kind.{Kind}
+use Rattle.unicode_width.specs.declared.kind.Kind.TheVariants as kinds
+use Rattle.unicode_width.specs.declared.state.After.{After}
+use Rattle.unicode_width.specs.declared.state.After.TheVariants as after
+use Rattle.unicode_width.specs.declared.state.State.{State}
 
 -- ---- rows whose texts are fields of records, with names, sizes and escapes
 
@@ -587,6 +595,126 @@ module _ (breaking : Breaking) (width : ℕ) where
         length-lines (lines_of text) (lines_of-lines text utf8),
         ap (λ (t : Text). length t) (join_with_byte-slice_split 10 text),
       )
+
+-- ---- no text takes more columns than it has bytes
+
+-- U+FE0F gives the character before it up to one column more than that has bytes, and takes none itself
+spent : Reading → ℕ
+spent r = r.0 + cond r.1.emoji 1 0
+
+kind-spent : (c : ℕ) (k : Kind) → 0xA0 < c → spent (of_kind false c k) ≤ len_utf8 c
+unfolding spent
+kind-spent c kinds.Zero high = grind (arith, nat_tests)
+kind-spent c kinds.Narrow high = grind (arith, nat_tests)
+kind-spent c kinds.Wide high = grind (arith, nat_tests)
+kind-spent c kinds.Ambiguous high = grind (arith, nat_tests)
+kind-spent c kinds.Alef high = grind (arith, nat_tests)
+kind-spent c kinds.KhmerLetter high = grind (arith, nat_tests)
+kind-spent c kinds.TifinaghConsonant high = grind (arith, nat_tests)
+kind-spent c kinds.LisuTone high = grind (arith, nat_tests)
+kind-spent c kinds.RegionalIndicator high = grind (arith, nat_tests)
+kind-spent c kinds.EmojiModifier high = grind (arith, nat_tests)
+kind-spent c kinds.Emoji high = grind (arith, nat_tests)
+kind-spent c kinds.Single high = grind (arith, nat_tests)
+
+alone-spent : (c : ℕ) → 0xA0 < c → spent (alone false c) ≤ len_utf8 c
+unfolding alone
+alone-spent c high = kind-spent c (kind c) high
+
+-- characters that join the next ones
+joined-spent : (total c : ℕ) (a : After) (own : ℕ × State) → spent own ≤ len_utf8 c → spent (joined_or total (joins false a c) own) ≤ total + len_utf8 c
+unfolding spent joins before_alef
+joined-spent total c after.Nothing own few = grind (arith, nat_tests, few)
+joined-spent total c after.LineFeed own few = grind (arith, nat_tests, few)
+joined-spent total c after.EmojiModifier own few = grind (arith, nat_tests, few)
+joined-spent total c after.RegionalIndicator own few = grind (arith, nat_tests, few)
+joined-spent total c after.RegionalIndicators own few = grind (arith, nat_tests, few)
+joined-spent total c after.Emoji own few = grind (arith, nat_tests, few)
+joined-spent total c after.ZwjEmoji own few = grind (arith, nat_tests, few)
+joined-spent total c after.KeycapZwjEmoji own few = grind (arith, nat_tests, few)
+joined-spent total c after.IndicatorZwj own few = grind (arith, nat_tests, few)
+joined-spent total c after.EvenIndicatorsZwj own few = grind (arith, nat_tests, few)
+joined-spent total c after.OddIndicatorsZwj own few = grind (arith, nat_tests, few)
+joined-spent total c after.TagEnd own few = grind (arith, nat_tests, few)
+joined-spent total c after.TagDigit1 own few = grind (arith, nat_tests, few)
+joined-spent total c after.TagDigit2 own few = grind (arith, nat_tests, few)
+joined-spent total c after.TagDigit3 own few = grind (arith, nat_tests, few)
+joined-spent total c after.TagLetter1 own few = grind (arith, nat_tests, few)
+joined-spent total c after.TagLetter2 own few = grind (arith, nat_tests, few)
+joined-spent total c after.TagLetter3 own few = grind (arith, nat_tests, few)
+joined-spent total c after.TagLetter4 own few = grind (arith, nat_tests, few)
+joined-spent total c after.TagLetter5 own few = grind (arith, nat_tests, few)
+joined-spent total c after.TagLetter6 own few = grind (arith, nat_tests, few)
+joined-spent total c after.KiratE own few = grind (arith, nat_tests, few)
+joined-spent total c after.KiratAi own few = grind (arith, nat_tests, few)
+joined-spent total c after.Alef own few = grind (arith, nat_tests, few)
+joined-spent total c after.Solidus own few = grind (arith, nat_tests, few)
+joined-spent total c after.SolidusAlef own few = grind (arith, nat_tests, few)
+joined-spent total c after.Lamed own few = grind (arith, nat_tests, few)
+joined-spent total c after.ZwjLamed own few = grind (arith, nat_tests, few)
+joined-spent total c after.Ya own few = grind (arith, nat_tests, few)
+joined-spent total c after.ZwjYa own few = grind (arith, nat_tests, few)
+joined-spent total c after.VowelZwjYa own few = grind (arith, nat_tests, few)
+joined-spent total c after.Tifinagh own few = grind (arith, nat_tests, few)
+joined-spent total c after.ZwjTifinagh own few = grind (arith, nat_tests, few)
+joined-spent total c after.JoinerTifinagh own few = grind (arith, nat_tests, few)
+joined-spent total c after.LisuTone own few = grind (arith, nat_tests, few)
+joined-spent total c after.OrkhonI own few = grind (arith, nat_tests, few)
+joined-spent total c after.ZwjOrkhonI own few = grind (arith, nat_tests, few)
+joined-spent total c after.KhmerLetter own few = grind (arith, nat_tests, few)
+
+past_selectors-spent : (c total : ℕ) (a : After) → 0xA0 < c → spent (past_selectors false c total a) ≤ total + len_utf8 c
+unfolding spent past_selectors
+past_selectors-spent c total a high =
+    let own = alone-spent c high in
+    let joined = joined-spent total c a (alone false c) own in
+    grind (arith, nat_tests, own, joined)
+
+in_context-spent : (c total : ℕ) (s : State) → 0xA0 < c → s.emoji ≡ false → spent (in_context false c total s) ≤ total + len_utf8 c
+unfolding spent in_context
+in_context-spent c total s high none =
+    let other = past_selectors-spent c total s.after high in
+    grind (arith, nat_tests, other, none)
+
+past_emoji-spent : (c total : ℕ) (s : State) → s.emoji ≡ false → spent (past_emoji false c total s) ≤ total + len_utf8 c
+unfolding spent past_emoji
+past_emoji-spent c total s none = elim (cases_lt 0xA0 c) [
+  | inl high ↦
+      let own = alone-spent c high in
+      let other = in_context-spent c total s high none in
+      grind (arith, nat_tests, own, other, none)
+  | inr low ↦ grind (arith, nat_tests, low, none)
+]
+
+step-spent : (c : ℕ) (r : Reading) → spent (step false c r) ≤ spent r + len_utf8 c
+unfolding spent step
+step-spent c (total, s) = elim (cases_Bool s.emoji) [
+  | inl emoji ↦
+      let other = past_emoji-spent c total (record (if_kept s) { emoji = false }) refl in
+      grind (arith, nat_tests, other, emoji, (len_utf8_bounds c).0)
+  | inr none ↦ let other = past_emoji-spent c total s none in grind (arith, nat_tests, other, none)
+]
+
+all-spent : (cs : List ℕ) → spent (read_before false cs (0, plain)) ≤ length (encode_utf8_all cs)
+unfolding spent
+all-spent [] = omega arith
+all-spent (c ∷ cs) =
+    omega (arith, step-spent c (read_before false cs (0, plain)), all-spent cs, length-append (encode_utf8 c) (encode_utf8_all cs), length-encode c)
+
+line-columns : (line : Text) → IsUtf8 line → width_of line ≤ length line
+unfolding width_of str_width spent
+line-columns line utf8 = omega (arith, all-spent (chars line), ap (λ (t : Text). length t) (encodes-chars line utf8))
+
+lines-columns : (ls : List Text) → EachLine ls → greatest (map width_of ls) ≤ length (join_with_byte 10 ls)
+lines-columns [] each = omega arith
+lines-columns (l ∷ []) each = omega (arith, line-columns l each.0.0)
+lines-columns (l ∷ m ∷ ls) each =
+    omega (arith, line-columns l each.0.0, lines-columns (m ∷ ls) each.1, length-append l (10 ∷ join_with_byte 10 (m ∷ ls)))
+
+pub columns_by_bytes : (text : Text) → IsUtf8 text → text_width_of text ≤ length text
+unfolding text_width_of lines_of
+columns_by_bytes text utf8 =
+    omega (arith, lines-columns (lines_of text) (lines_of-lines text utf8), ap (λ (t : Text). length t) (join_with_byte-slice_split 10 text))
 
 -- the field at a place, and none
 pub ruleset fields_found = (field_missing, field_there)

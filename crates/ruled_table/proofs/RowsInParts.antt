@@ -19,7 +19,7 @@ use Rattle.ruled_table.specs.Layouts.{cells_of, heights_of, start_of, cells_with
 use Rattle.ruled_table.specs.Layouts.{abridged, note_of, shown_columns, Plan, plan_of, table_of, whole_of, whole_text}
 use Rattle.ruled_table.specs.Columns.{ellipsis, fields_at, texts_at}
 use Rattle.ruled_table.specs.Sides.{extents_of, pointed_fields, pointed_row, ruler_of}
-use Rattle.ruled_table.specs.declared.points.Extent.{Extent}
+use Rattle.pg_table.specs.declared.numbers.Extent.{Extent}
 use Rattle.ruled_table.specs.RowLines.{AreHeights, HasPrinted, after_rows, begun_of, begun_text, ended_by, lines_of, next_lines, GrowsTo, TellsRoom, ended, note_below}
 use Rattle.ruled_table.specs.Shown.{shown_row, shown_text}
 use Rattle.ruled_table.specs.Widths.{row_within, room_of, text_within, texts_within, first_config, widths_of}

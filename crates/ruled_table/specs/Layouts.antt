@@ -13,7 +13,7 @@ use Rattle.pg_layout.specs.Colors.{Color}
 use Rattle.pg_layout.specs.declared.position.Position.{Position}
 use Rattle.ruled_table.specs.declared.options.Vertical.{Vertical}
 use Rattle.ruled_table.specs.declared.options.Vertical.TheVariants.{Always, IfOmitting, Never}
-use Rattle.ruled_table.specs.declared.points.Extent.{Extent}
+use Rattle.pg_table.specs.declared.numbers.Extent.{Extent}
 use Rattle.std.specs.Option.{option_or}
 use Rattle.pg_layout.specs.Records.{text_at}
 use Rattle.pg_fit.specs.Rows.{row_height}

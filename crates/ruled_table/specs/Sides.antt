@@ -1,8 +1,8 @@
 -- At which side of its cells the texts of a column stand, and numbers whose points are below one another.
-use Rattle.std.specs.Prelude.{ℕ, ◌||◌, Bool, List, [], drop, slice_index_or, fold, string_bytes, Option, Some, None, if◌then◌else◌, ◌-◌, ◌==◌, ◌&&◌, not, max, true, false, ◌∷◌, ◌++◌, codes}
+use Rattle.std.specs.Prelude.{ℕ, ◌||◌, Bool, List, [], drop, slice_index_or, fold, string_bytes, Option, Some, None, if◌then◌else◌, ◌-◌, ◌==◌, ◌&&◌, max, true, false, ◌∷◌, ◌++◌, codes}
 use Rattle.std.specs.Prelude.{length, map, position}
-use Rattle.std.specs.List.{list_all, list_any, range_with_len, prefix_len, repeat}
-use Rattle.std.specs.Str.{bytes_eq, chars}
+use Rattle.std.specs.List.{list_all, list_any, range_with_len, repeat}
+use Rattle.std.specs.Str.{bytes_eq}
 use Rattle.pg_layout.specs.Records.{columns_of}
 use Rattle.pg_layout.specs.Text.{Text, greatest}
 use Rattle.pg_layout.specs.declared.alignment.AlignmentHorizontal.{AlignmentHorizontal}
@@ -11,11 +11,11 @@ use Rattle.pg_layout.specs.declared.position.Entity.TheVariants.{Column}
 use Rattle.pg_config.specs.Config.{Config}
 use Rattle.pg_config.specs.Settings.{Settings, with_setting}
 use Rattle.ruled_table.specs.Columns.{told_of}
-use Rattle.pg_table.specs.Numbers.{is_number, is_number_or_blank}
+use Rattle.pg_table.specs.Numbers.{is_number_or_blank, lacking, no_extent, own_extent}
 use Rattle.ruled_table.specs.declared.options.Options.{Options}
 use Rattle.ruled_table.specs.declared.options.Side.{Side}
 use Rattle.ruled_table.specs.declared.options.Side.TheVariants.{To, Point}
-use Rattle.ruled_table.specs.declared.points.Extent.{Extent}
+use Rattle.pg_table.specs.declared.numbers.Extent.{Extent}
 
 -- ---- columns of numbers
 
@@ -66,23 +66,9 @@ with_sides side columns settings = fold (λ settings column. with_side column (s
 abbrev pub sided : Options → List (List Text) → Config → Config
 sided options rows config = record config { alignment_horizontal = with_sides (side_of options rows) (columns_of rows) config.alignment_horizontal }
 
--- ---- the parts of a number
+-- ---- numbers whose points are below one another
 
--- its whole part ends before a point, an exponent or a percent sign
-abbrev pub ends_whole : ℕ → Bool
-ends_whole c = (c == 46) || ((c == 101) || ((c == 69) || (c == 37)))
-
--- how many characters it has, and how many follow it
-abbrev pub whole_len : Text → ℕ
-whole_len text = prefix_len (λ c. not (ends_whole c)) (chars text)
-
-abbrev pub rest_len : Text → ℕ
-rest_len text = length (chars text) - whole_len text
-
--- by how many characters a number is shorter behind its point than this, and with as many spaces there
-abbrev pub lacking : ℕ → Text → ℕ
-lacking rest text = if is_number text then rest - rest_len text else 0
-
+-- a number with the spaces behind it that its rest lacks, or any other text
 abbrev pub pointed : ℕ → Text → Text
 pointed rest text = text ++ repeat (lacking rest text) (codes " ")
 
@@ -97,14 +83,7 @@ is_point (Some Point) = true
 abbrev pub is_pointed : Options → List (List Text) → ℕ → Bool
 is_pointed options rows column = is_point (told_of options.sides.items column) && is_numeric options (body_of options.has_header rows) column
 
--- how many characters a number has in front of its point, and from this on
-abbrev pub no_extent : Extent
-no_extent = record { whole = 0; rest = 0 }
-
-abbrev pub own_extent : Text → Extent
-own_extent text = if is_number text then record { whole = whole_len text; rest = rest_len text } else no_extent
-
--- the most that those of a column have
+-- the longest whole part and the longest rest of the numbers of a column
 abbrev pub extent_of : List (List Text) → ℕ → Extent
 extent_of rows column = record {
   whole = greatest (map (λ row. (own_extent (slice_index_or row column [])).whole) rows);

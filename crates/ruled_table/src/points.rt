@@ -10,55 +10,11 @@ use crate::columns::{field_at, told_of};
 use crate::lent_rows::{LentRows, text_in};
 use crate::options::{Options, Side};
 use crate::sides::{is_numeric, lent_body};
-use pg_table::numbers::is_number;
+use pg_table::numbers::{Extent, lacking, own_extent};
 use ruled_row::TextRow;
 use std::alloc::{AllocError, Global};
 
-/// How many characters the numbers of a field take at most in front of their points, and from these on.
-#[derive(Clone, Copy)]
-pub(crate) struct Extent {
-    /// The longest whole part: a sign, digits and commas.
-    pub(crate) whole: usize,
-    /// The longest rest: a point and what follows it, an exponent, or a percent sign.
-    pub(crate) rest: usize,
-}
-
 const NO_EXTENT: Extent = Extent { whole: 0, rest: 0 };
-
-// Whether what follows the whole part of a number begins with this character.
-fn ends_whole(c: char) -> bool
-    ensures { result ≡ spec.ends_whole c }
-{
-    matches!(c, '.' | 'e' | 'E' | '%')
-}
-
-// How many characters the whole part of a number has.
-fn whole_len(text: &str) -> usize
-    ensures { result ≡ spec.whole_len text.now }
-{
-    text.chars().take_while(|c| !ends_whole(*c)).count()
-}
-
-// How many characters follow it.
-#[tactic(auto, using(std::proofs::lemmas::Str::chars_from_encodes))]
-fn rest_len(text: &str) -> usize
-    ensures { result ≡ spec.rest_len text.now }
-{
-    text.chars().count().saturating_sub(whole_len(text))
-}
-
-// The extent of a text, if it is a number.
-fn own_extent(text: &str) -> Extent
-    ensures { result ≡ spec.own_extent text.now }
-{
-    if !is_number(text) {
-        return NO_EXTENT;
-    }
-    Extent {
-        whole: whole_len(text),
-        rest: rest_len(text),
-    }
-}
 
 // The extent of the numbers of a column.
 fn extent_of(rows: LentRows<'_>, column: usize) -> Extent
@@ -141,11 +97,9 @@ fn each_extent(
 ) -> Result<Vec<Extent>, AllocError>
     ensures { IfOk result (λ extents. extents.items ≡ map (spec.field_extent options.now rows.entry.places.now (texts_of rows.entry)) (range_with_len 0 fields)) }
 {
-    let mut extents = Vec::new(alloc);
-    for field in 0..fields {
-        extents.push(field_extent(options, rows, field))?;
-    }
-    Ok(extents)
+    (0..fields)
+        .map(|field| field_extent(options, rows, field))
+        .collect(alloc)
 }
 
 /// The extent of each field, or of none if no column is aligned by points.
@@ -202,12 +156,7 @@ pub(crate) fn ruler_of(
 fn pointed(alloc: Global, rest: usize, text: &str) -> Result<String, AllocError>
     ensures { IfOk result (λ shown. string_bytes shown ≡ spec.pointed rest text.now) }
 {
-    let lacking = if is_number(text) {
-        rest.saturating_sub(rest_len(text))
-    } else {
-        0
-    };
-    let spaces = " ".repeat(alloc, lacking)?;
+    let spaces = " ".repeat(alloc, lacking(rest, text))?;
     format!(in alloc; "{text}{spaces}")
 }
 

@@ -1,35 +1,23 @@
 //! How narrow and how wide columns may be.
 
 ghost use Rattle.std.specs.Prelude.{◌≡◌, ◌<◌, ◌^◌, ℕ, [], length, map, max, slice_index, slice_index_or, true, IfOk};
-ghost use Rattle.std.specs.List.{list_all, range_with_len};
+ghost use Rattle.std.specs.List.{range_with_len};
 ghost use Rattle.csv.specs.Records.{fields_of, text_of};
 ghost use Rattle.pg_layout.specs.Records.{columns_of};
-ghost use Rattle.pg_layout.specs.Text.{is_plain_byte, text_width_of};
-ghost use Rattle.ruled_table.specs.Columns.{drawn_at, fields_at, texts_of};
+ghost use Rattle.pg_layout.specs.Text.{text_width_of};
+ghost use Rattle.ruled_table.specs.Columns.{fields_at, texts_of};
 ghost use Rattle.ruled_table.specs.Bounds as spec;
 
 use crate::bounds::limit_of;
-use crate::columns::{drawn_at, field_at, told_of};
+use crate::columns::{drawn_at, told_of};
 use crate::lent_rows::{LentRows, text_in};
 use crate::options::Options;
-use crate::rows::has_plain_fields;
 use crate::sides::{is_numeric, lent_body};
 use pg_config::SpannedConfig;
 use pg_fit::{ColumnRange, letters_width, narrow};
 use pg_layout::{Records, get_text_width};
 use ruled_row::TextRow;
 use std::alloc::{AllocError, Global};
-
-/// How many terminal columns the widest text of a column takes.
-pub(crate) fn widest_text(rows: LentRows<'_>, column: usize) -> usize
-    ensures { result ≡ spec.widest_text (texts_of rows.entry) column }
-{
-    let mut width = 0usize;
-    for fields in rows.records {
-        width = get_text_width(text_in(fields, rows.places, column)).max(width);
-    }
-    width
-}
 
 /// How many terminal columns a text takes. Most texts have letters alone, whose width is found by one walk.
 #[tactic(auto, using(crate::proofs::LentTexts::letters_found))]
@@ -42,16 +30,27 @@ pub(crate) fn text_width(text: &str) -> usize
     }
 }
 
-// How many terminal columns the text of a row in a column takes: a plain one as many as it has bytes.
+/// The greater of a width and that of a text, which isn't measured if it has no more bytes: no text takes more terminal
+/// columns than bytes.
 #[inline(always)]
-fn width_at(is_plain: bool, fields: &TextRow, place: Option<usize>) -> usize
-    requires { is_plain ≡ true → list_all (list_all is_plain_byte) (fields_of fields.now) ≡ true }
-    ensures { result ≡ text_width_of (drawn_at (fields_of fields.now) place) }
+pub(crate) fn raised_to(width: usize, text: &str) -> usize
+    ensures { result ≡ max width (text_width_of text.now) }
 {
-    match place {
-        Some(place) if is_plain => field_at(fields, place).len(),
-        _ => text_width(drawn_at(fields, place)),
+    if text.len() <= width {
+        return width;
     }
+    text_width(text).max(width)
+}
+
+/// How many terminal columns the widest text of a column takes.
+pub(crate) fn widest_text(rows: LentRows<'_>, column: usize) -> usize
+    ensures { result ≡ spec.widest_text (texts_of rows.entry) column }
+{
+    let mut width = 0usize;
+    for fields in rows.records {
+        width = raised_to(width, text_in(fields, rows.places, column));
+    }
+    width
 }
 
 // Raises the widths of columns to those of the texts of a row.
@@ -61,9 +60,10 @@ fn raise_to_row(fields: &TextRow, places: &[Option<usize>], widths: &mut [usize]
     ensures raised { (k : ℕ) → k < length places.now → slice_index widths.new k ≡ max (slice_index widths.old k) (text_width_of (slice_index_or (fields_at places.now (fields_of fields.now)) k [])) }
     ensures counted { length (text_of fields.now) < 2 ^ 63 }
 {
-    let is_plain = has_plain_fields(fields);
+    // Shows that memory holds the text of the row.
+    let _text = fields.text();
     for column in 0..places.len() {
-        widths[column] = widths[column].max(width_at(is_plain, fields, places[column]));
+        widths[column] = raised_to(widths[column], drawn_at(fields, places[column]));
     }
 }
 

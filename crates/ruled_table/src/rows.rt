@@ -2,9 +2,9 @@
 //! made anew.
 
 ghost use Rattle.std.specs.Cow.{cow_str_bytes};
-ghost use Rattle.std.specs.Prelude.{◌≡◌, ◌+◌, ◌*◌, ◌^◌, ◌<◌, length, map, true, IfOk};
+ghost use Rattle.std.specs.Prelude.{◌≡◌, ◌+◌, ◌*◌, ◌<◌, length, map, true, IfOk};
 ghost use Rattle.std.specs.List.{list_all};
-ghost use Rattle.csv.specs.Records.{fields_of, text_of};
+ghost use Rattle.csv.specs.Records.{fields_of};
 ghost use Rattle.pg_layout.specs.Text.{is_plain_byte};
 ghost use Rattle.ruled_table.specs.Arranged.{both_ends, ends_of, gap_of, tails};
 ghost use Rattle.ruled_table.specs.Shown.{heads, seen_text, shown_text, limit_of};
@@ -14,7 +14,6 @@ use crate::escapes::{escaped, is_plain_text};
 use crate::options::Options;
 use crate::sides::GAP;
 use pg_fit::{is_printable, is_visible, visible};
-use pg_layout::is_plain;
 use ruled_row::TextRow;
 use std::alloc::{AllocError, Global};
 use std::borrow::CowStr;
@@ -73,14 +72,6 @@ pub(crate) fn stands(options: &Options, text: &str) -> bool
         return true;
     }
     is_plain_text(text)
-}
-
-/// Whether each field of a record is a line of ASCII. All are tested at once.
-pub(crate) fn has_plain_fields(fields: &TextRow) -> bool
-    ensures plain { result ≡ true → list_all (list_all is_plain_byte) (fields_of fields.now) ≡ true }
-    ensures counted { length (text_of fields.now) < 2 ^ 63 }
-{
-    is_plain(fields.text().as_bytes())
 }
 
 /// Whether each field of a record is a line of printable ASCII that is shown unchanged. All are tested at once, which

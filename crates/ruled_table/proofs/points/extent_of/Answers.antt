@@ -2,8 +2,9 @@ use Rattle.std.proofs.Common.{◌≡◌, ◌∙◌, ◌<◌, ◌≤◌, ◌∷�
 use Rattle.std.proofs.lemmas.List.{drop_all}
 use Rattle.csv.specs.Records.{Row, fields_of}
 use Rattle.ruled_table.specs.Columns.{fields_at, texts_at}
-use Rattle.ruled_table.specs.Sides.{extent_of, own_extent}
-use Rattle.ruled_table.specs.declared.points.Extent.{Extent}
+use Rattle.pg_table.specs.Numbers.{own_extent}
+use Rattle.ruled_table.specs.Sides.{extent_of}
+use Rattle.pg_table.specs.declared.numbers.Extent.{Extent}
 use Rattle.ruled_table.proofs.LentTexts.{drop_next}
 use Rattle.ruled_table.proofs.points.extent_of.Goals as goal
 

@@ -4,7 +4,7 @@ use Rattle.std.proofs.lemmas.List.FromFn.{map-range_with_len_more}
 use Rattle.csv.specs.Records.{fields_of}
 use Rattle.pg_layout.specs.Text.{Text}
 use Rattle.ruled_table.specs.Sides.{extent_at, pointed}
-use Rattle.ruled_table.specs.declared.points.Extent.{Extent}
+use Rattle.pg_table.specs.declared.numbers.Extent.{Extent}
 use Rattle.ruled_table.proofs.points.pointed_record.Goals as goal
 
 pub loop-field-preserved : goal.loop-field-preserved

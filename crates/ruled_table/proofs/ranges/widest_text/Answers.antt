@@ -17,8 +17,8 @@ loop-fields-preserved c =
     let rest : ℕ = widest_text (texts_at places (drop (i + 1) rows)) c.args.column in
     let here : ℕ = text_width_of (slice_index_or (fields_at places (fields_of c.fields-item.result)) c.args.column []) in
     let before : max c.loop-fields.width (max here rest) ≡ widest_text (texts_at places rows) c.args.column = rw next at c.loop-fields.invariant in
-    let width : c.get_text_width.result ≡ here = c.get_text_width.ensures ∙ ap text_width_of c.text_in.ensures in
-    omega (arith, before, width, c.max-width.ensures)
+    let width : c.raised_to-width.result ≡ max c.loop-fields.width here = omega (arith, c.raised_to-width.ensures, ap text_width_of c.text_in.ensures) in
+    omega (arith, before, width)
 
 pub returns : goal.returns
 returns c =

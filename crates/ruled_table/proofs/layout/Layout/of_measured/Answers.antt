@@ -6,7 +6,7 @@ use Rattle.ruled_table.specs.Columns.{ellipsis, texts_at}
 use Rattle.ruled_table.specs.Tables.{Tells}
 use Rattle.ruled_table.specs.Layouts.{plan_by, plan_fault, abridged, note_of, shown_columns, Plan, plan_in}
 use Rattle.ruled_table.specs.declared.view.ViewFault.{ViewFault}
-use Rattle.ruled_table.specs.declared.points.Extent.{Extent}
+use Rattle.pg_table.specs.declared.numbers.Extent.{Extent}
 use Rattle.ruled_table.proofs.LentTexts.{rows-abridged}
 use Rattle.ruled_table.proofs.RowsInParts.{all-fault, all-laid, some-fault, some-laid}
 use Rattle.ruled_table.proofs.layout.Layout.of_measured.Goals as goal

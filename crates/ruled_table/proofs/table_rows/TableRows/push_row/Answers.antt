@@ -4,7 +4,7 @@ use Rattle.csv.specs.Records.{fields_of}
 use Rattle.pg_layout.specs.Text.{Text}
 use Rattle.ruled_table.specs.Layouts.{Measures, Plan, plan_in}
 use Rattle.ruled_table.specs.Sides.{pointed_fields}
-use Rattle.ruled_table.specs.declared.points.Extent.{Extent}
+use Rattle.pg_table.specs.declared.numbers.Extent.{Extent}
 use Rattle.ruled_table.proofs.RowsInParts.{as-it-is, as-pointed}
 use Rattle.ruled_table.proofs.table_rows.TableRows.push_row.Goals as goal
 
