@@ -30,12 +30,16 @@ enum Call {
     PanelRows,
     /// Columns of numbers at the right.
     Numbers,
+    /// Points below one another, from a row on, in a column.
+    Points(usize, usize),
     /// A caption at the right.
     Caption(&'static str),
     /// A frame round the cells from one to another, in a table with these lines between its outer ones.
     Framed(Inner, [usize; 4]),
     /// A double line left of column 1.
     ColumnLine,
+    /// A double line left of column 1, in a table without other lines.
+    OnlyColumnLine,
 }
 
 /// The lines between the outer ones of a table.
@@ -189,6 +193,34 @@ const CASES: &[Case] = &[
             +-----+-----+----+\n|1 cup|     | -7%|\n+-----+-----+----+",
     },
     Case {
+        name: "points are below one another",
+        rows: &[
+            &["item", "price"],
+            &["tea", "3.5"],
+            &["milk", "12"],
+            &["salt", "0.25"],
+            &["cups", "-"],
+        ],
+        call: Call::Points(1, 1),
+        export: Export::Picture,
+        text: "+----+-----+\n|item|price|\n+----+-----+\n|tea | 3.5 |\n+----+-----+\n|milk|12   |\n\
+            +----+-----+\n|salt| 0.25|\n+----+-----+\n|cups|    -|\n+----+-----+",
+    },
+    Case {
+        name: "a number above the first row keeps its padding",
+        rows: &[&["2024"], &["1.5"], &["20"]],
+        call: Call::Points(1, 0),
+        export: Export::Picture,
+        text: "+----+\n|2024|\n+----+\n| 1.5|\n+----+\n|20  |\n+----+",
+    },
+    Case {
+        name: "a column that is not there has no points",
+        rows: &[&["1.5"], &["20"]],
+        call: Call::Points(0, 1),
+        export: Export::Picture,
+        text: "+---+\n|1.5|\n+---+\n|20 |\n+---+",
+    },
+    Case {
         name: "a caption is over the last line",
         rows: &[&["ab", "c"]],
         call: Call::Caption("end"),
@@ -250,6 +282,13 @@ const CASES: &[Case] = &[
         call: Call::ColumnLine,
         export: Export::Picture,
         text: "+-╦-+\n|a║b|\n+-╬-+\n|c║d|\n+-╩-+",
+    },
+    Case {
+        name: "a line between two columns adds no row line",
+        rows: &[&["a", "b"], &["c", "d"]],
+        call: Call::OnlyColumnLine,
+        export: Export::Picture,
+        text: "a║b\nc║d",
     },
     Case {
         name: "texts are beside each other",
@@ -350,9 +389,13 @@ fn changed<A: Allocator + Copy>(
             .with_span_crossings(alloc, Borders::modern()),
         Call::PanelRows => panel_rows(alloc, table),
         Call::Numbers => table.with_numbers_right(),
+        Call::Points(from, column) => table.with_points_aligned(from, column),
         Call::Caption(caption) => table.with_caption(alloc, caption, AlignmentHorizontal::Right),
         Call::Framed(inner, corners) => framed(table, inner, corners),
         Call::ColumnLine => table.with_column_line(1, Borders::extended()),
+        Call::OnlyColumnLine => table
+            .with_borders(Borders::empty())
+            .with_column_line(1, Borders::extended()),
     }
 }
 
