@@ -1,5 +1,6 @@
 """The crates of the repository, as crates.txt lists them, its version, the logic that it is proved with, its documents, and the
-functions of a source; the options of the command `ruled`, as its own `--help` describes them, and the files of an installed one, as
+functions of a source; the options of the command `ruled`, as its own `--help` describes them, with its man page and its
+completions for shells, which are made of that; the files of an installed one, as
 they lie below a prefix; and what proving costs: the figures of the last measured run of the gate, and this machine beside its own.
 
 `python3 tools/repository.py NAME` prints those below a crate, lowest first, and then that one.
@@ -10,6 +11,7 @@ import os
 import pathlib
 import re
 import resource
+import shlex
 import shutil
 import subprocess
 import sys
@@ -192,6 +194,179 @@ def version_of(program):
     return said_by(program, "--version").split()[1]
 
 
+# ---- the man page
+
+MAN_BEFORE = r"""'\" t
+.TH RULED 1 "" "ruled {version}" "User Commands"
+.SH NAME
+ruled \- print CSV, TSV, JSON, a table of an SQLite database or the result of a query
+.SH SYNOPSIS
+.B ruled
+.RI [ OPTIONS ]\ [ FILE ...]
+.SH DESCRIPTION
+.B ruled
+reads
+.IR FILE ,
+or standard input if there is none or it is
+.BR \- ,
+and prints its rows as a table; the rows of further files with the same header follow. The first row is the header unless
+.B \-\-no\-header
+is given. The format comes from
+.BR \-\-format ,
+else the file's extension, else its first bytes. If something is wrong with the input, one line on standard error says
+what, and nothing is printed, except for rows that
+.B \-\-stream
+has printed before.
+.SH OPTIONS
+"""
+MAN_AFTER = r""".SH EXIT STATUS
+.TP
+.B 0
+The table was printed, or nobody reads the output.
+.TP
+.B 2
+The arguments, the input or the query are wrong.
+.TP
+.B 3
+The table is too large to measure.
+.TP
+.B 4
+Out of memory.
+.TP
+.B 5
+A file can't be opened, or a read or a write failed.
+.SH ENVIRONMENT
+.TP
+.B COLUMNS
+The greatest width of a line, unless
+.B \-\-width
+is given. If it isn't set and the output is a terminal, the default is the terminal's width.
+.TP
+.BR NO_COLOR ", " TERM
+If NO_COLOR isn't empty, or TERM is
+.BR dumb ,
+nothing has colour, unless
+.B \-\-color always
+is given.
+.SH EXAMPLES
+.TP
+.B ruled shop.csv
+prints a file.
+.TP
+.B ruled \-\-columns item,price \-\-look rounded shop.csv
+prints two of its columns in a table with round corners.
+.TP
+.B tail \-f log.csv | ruled \-\-stream=1
+prints each row as it arrives.
+.TP
+.B ruled shop.db
+prints the tables of a database.
+.TP
+.B ruled \-\-table item shop.db
+prints all rows of one.
+"""
+
+
+def roff(text):
+    """A text in which nothing is a request or an escape of roff."""
+    text = text.replace("\\", r"\e").replace("-", r"\-").replace("…", r"\[u2026]")
+    return r"\&" + text if text[:1] in {".", "'"} else text
+
+
+def paragraph_of(option):
+    """The paragraph of an option."""
+    names = [f"\\-{option.letter}"] if option.letter else []
+    names.append(roff(option.spelling()))
+    values = f" One of: {', '.join(option.values)}." if option.values else ""
+    return f".TP\n.B {', '.join(names)}\n{roff(option.text + '.' + values)}\n"
+
+
+def man(program):
+    options = "".join(map(paragraph_of, options_of(program)))
+    return MAN_BEFORE.replace("{version}", roff(version_of(program))) + options + MAN_AFTER
+
+
+# ---- completions
+
+BASH = """# Completions of ruled for bash.
+_ruled() {{
+    local word="${{COMP_WORDS[COMP_CWORD]}}" before="${{COMP_WORDS[COMP_CWORD-1]}}"
+    case "$before" in
+{cases}
+    esac
+    case "$word" in
+        -*) COMPREPLY=($(compgen -W "{words}" -- "$word")) ;;
+        *) COMPREPLY=($(compgen -f -- "$word")) ;;
+    esac
+}}
+complete -o filenames -F _ruled ruled
+"""
+
+
+def names_of(option):
+    """An option as it is written, without its value."""
+    return ([f"-{option.letter}"] if option.letter else []) + [f"--{option.name}"]
+
+
+def words_of(options):
+    """All options as they are written."""
+    return [name for option in options for name in names_of(option)]
+
+
+def bash(options):
+    """The values after an option; nothing after one whose value is free."""
+    taking = [option for option in options if option.value and not option.may_lack_value]
+    cases = [
+        f'        {"|".join(names_of(option))}) COMPREPLY=($(compgen -W "{" ".join(option.values)}" -- "$word")); return ;;'
+        for option in taking
+    ]
+    return BASH.format(cases="\n".join(cases), words=" ".join(words_of(options)))
+
+
+def zsh_text(text):
+    """A text in the brackets of an argument of zsh."""
+    return text.replace("\\", "\\\\").replace("[", "\\[").replace("]", "\\]").replace(":", "\\:")
+
+
+def zsh_entry(option):
+    """What _arguments reads of an option."""
+    sign = {True: "=-", False: "="}[option.may_lack_value] if option.value else ""
+    values = f":{option.value}:({' '.join(option.values)})" if option.values else f":{option.value}:" if option.value else ""
+    entry = shlex.quote(f"--{option.name}{sign}[{zsh_text(option.text)}]{values}")
+    if not option.letter:
+        return entry
+    letter = shlex.quote(f"-{option.letter}{'+' if option.value else ''}[{zsh_text(option.text)}]{values}")
+    return f"{entry} {letter}"
+
+
+def zsh(options):
+    entries = " \\\n    ".join([*map(zsh_entry, options), "'*:file:_files'"])
+    return f"#compdef ruled\n# Completions of ruled for zsh.\n_arguments \\\n    {entries}\n"
+
+
+def fish_entry(option):
+    """The line of an option for fish."""
+    words = ["complete", "-c", "ruled", "-l", option.name]
+    words += ["-s", option.letter] if option.letter else []
+    words += ["-x"] if option.value and not option.may_lack_value else []
+    words += ["-a", " ".join(option.values)] if option.values else []
+    return shlex.join([*words, "-d", option.text])
+
+
+def fish(options):
+    return "# Completions of ruled for fish.\n" + "\n".join(map(fish_entry, options)) + "\n"
+
+
+def help_page(kind, program):
+    """The man page of a program, or its completions for a shell, made from its own --help."""
+    shells = {"bash": bash, "zsh": zsh, "fish": fish}
+    return man(program) if kind == "man" else shells[kind](options_of(program))
+
+
+
+# ---- files of an installed program
+
+
 def write(file, data, mode=0o644):
     """Writes a file, and the folders above it."""
     file.parent.mkdir(parents=True, exist_ok=True)
@@ -199,19 +374,14 @@ def write(file, data, mode=0o644):
     file.chmod(mode)
 
 
-def written_by(tool, *words):
-    """What a tool beside this module writes."""
-    return subprocess.run([HERE / tool, *words], check=True, capture_output=True).stdout
-
-
 def lay_out(program, folder):
     """Puts the stripped program, its launcher, its page and its completions below a folder; returns the files."""
     write(folder / PROGRAM, program.read_bytes(), 0o755)
     subprocess.run(["strip", "--remove-section=.comment", folder / PROGRAM], check=True)
     write(folder / COMMAND, LAUNCHER.encode(), 0o755)
-    write(folder / PAGE, gzip.compress(written_by("help-pages", "man", program), 9, mtime=0))
+    write(folder / PAGE, gzip.compress(help_page("man", program).encode(), 9, mtime=0))
     for shell, name in COMPLETIONS.items():
-        write(folder / name, written_by("help-pages", shell, program))
+        write(folder / name, help_page(shell, program).encode())
     return [folder / name for name in FILES]
 
 
