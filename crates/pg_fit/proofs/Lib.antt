@@ -4,4 +4,5 @@ pub mod NarrowedWidths
 pub mod LawsOfCuts
 pub mod LawsOfTexts
 pub mod LawsOfControls
+pub mod LawsOfEscapes
 pub mod OverlaidTexts

@@ -1,12 +1,12 @@
 //! Texts without the escape sequences of terminals.
 
-ghost use Rattle.std.specs.Prelude.{◌≡◌, IfOk, string_bytes};
-ghost use Rattle.pg_fit.specs.Escapes.{after, begins_command, is_shown, without_escapes};
+ghost use Rattle.std.specs.Prelude.{◌≡◌, ◌==◌, ◌&&◌, ◌∷◌, ◌-◌, List, ℕ, IfOk, if◌then◌else◌, not, string_bytes};
+ghost use Rattle.pg_fit.specs.Escapes.{begins_string, sequence_length, unread, without_escapes};
 
 use std::alloc::{AllocError, Allocator};
 
 /// What a terminal makes of the next character of a text.
-#[derive(Debug, Clone, Copy, PartialEq, Eq)]
+#[derive(Clone, Copy)]
 pub(crate) enum Reading {
     /// Shows it.
     Shown,
@@ -21,23 +21,24 @@ pub(crate) enum Reading {
 }
 
 // Whether a character behind an escape begins a command or another string that ST ends.
-fn begins_command(c: char) -> bool
-    ensures { result ≡ begins_command c }
+fn begins_string(c: char) -> bool
+    ensures { result ≡ begins_string c }
 {
     matches!(c, ']' | 'P' | 'X' | '^' | '_')
 }
 
 impl Reading {
-    // What a terminal makes of the character behind this one.
+    // What a terminal makes of the character behind this one: an escape begins a sequence.
+    #[tactic(auto, using(crate::proofs::LawsOfEscapes::left_behind))]
     fn after(self, c: char) -> Reading
-        ensures { result ≡ after self c }
+        ensures { (rest : List ℕ) → unread result rest ≡ (if c == 27 then sequence_length rest else unread self (c ∷ rest) - 1) }
     {
         match (self, c) {
             (_, '\u{1b}') => Reading::Escaped,
             (_, '\n') => Reading::Shown,
             (Reading::Escaped, '[') => Reading::Control,
             (Reading::Escaped | Reading::Short, ' '..='/') => Reading::Short,
-            (Reading::Escaped, _) if begins_command(c) => Reading::Command,
+            (Reading::Escaped, _) if begins_string(c) => Reading::Command,
             (Reading::Control, ' '..='?') => Reading::Control,
             (Reading::Command, '\u{7}' | '\u{9c}') => Reading::Shown,
             (Reading::Command, _) => Reading::Command,
@@ -46,8 +47,9 @@ impl Reading {
     }
 
     // Whether a character is no part of a sequence.
+    #[tactic(auto, using(crate::proofs::LawsOfEscapes::shown_outside))]
     fn is_shown(self, c: char) -> bool
-        ensures { result ≡ is_shown self c }
+        ensures { (rest : List ℕ) → result ≡ not (c == 27) && (unread self (c ∷ rest) == 0) }
     {
         match (self, c) {
             (_, '\u{1b}') => false,

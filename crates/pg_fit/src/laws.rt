@@ -61,7 +61,7 @@ pub fn visible_texts_are_seen()
 
 /// A text without its escape sequences has no escape, and as many lines as before; and a text without
 /// an escape stays.
-#[tactic(auto, using(crate::proofs::LawsOfControls::no_escapes_are_left, crate::proofs::LawsOfControls::texts_without_escapes_stay, crate::proofs::LawsOfControls::line_feeds_stay))]
+#[tactic(auto, using(crate::proofs::LawsOfEscapes::no_escapes_are_left, crate::proofs::LawsOfEscapes::texts_without_escapes_stay, crate::proofs::LawsOfEscapes::line_feeds_stay))]
 pub fn escapes_are_left_out()
     ensures none { NoEscapesAreLeft }
     ensures stay { TextsWithoutEscapesStay }
