@@ -39,17 +39,19 @@ const PRICES: &[&[&str]] = &[
 pub(crate) fn prices(alloc: Global) -> Result<String, TableFault>
     ensures even { IfOk result (λ text. IsEvenText (string_bytes text)) }
 {
-    let table = with_numbers_right(spaced(framed(alloc)?))?;
-    table
+    framed(alloc)?
         .with_header_line(HorizontalLine::sharp())?
         .to_string(alloc)
 }
 
-// The prices between borders.
+// The prices between borders, numbers at the right.
 fn framed(alloc: Global) -> Result<Table<&'static str>, TableFault>
     ensures narrow { IfOk result (λ table. IsNarrowLook table.config) }
 {
-    Ok(Table::new(alloc, rows_of(alloc, PRICES)?)?.with_borders(Borders::sharp()))
+    let table = Table::new(alloc, rows_of(alloc, PRICES)?)?
+        .with_borders(Borders::sharp())
+        .with_numbers_right()?;
+    Ok(spaced(table))
 }
 
 // A space at both sides of each text.
@@ -65,14 +67,6 @@ fn spaced(table: Table<&'static str>) -> Table<&'static str>
         top: above,
         bottom: above,
     })
-}
-
-// Quantities and prices at the right.
-fn with_numbers_right(table: Table<&'static str>) -> Result<Table<&'static str>, TableFault>
-    requires narrow { IsNarrowLook table.config }
-    ensures narrow { IfOk result (λ table. IsNarrowLook table.config) }
-{
-    table.with_numbers_right()
 }
 
 const INVOICE: &[&[&str]] = &[
