@@ -6,7 +6,7 @@ use crate::natural::NaturalTable;
 use crate::overflow::{Overflow, Within};
 use crate::sizes::plus;
 use pg_config::SpannedConfig;
-use pg_fit::OverlaidRecords;
+use pg_fit::{ColumnRange, OverlaidRecords};
 use pg_layout::{Colors, ConstantDimension, ExactRecords, PeekableRecords};
 use std::alloc::{Allocator, Global};
 
@@ -50,9 +50,10 @@ where
     ghost use Rattle.pg_picture.specs.Sizes.{if_fits};
     ghost use Rattle.pg_picture.specs.Table.{full_width, is_empty};
     ghost use Rattle.pg_table.specs.Fitted.{HasPlainTail, limit_of, printed_fitted_table, fitted_of, fit_fault_of, least_at, least_width_of, least_fault_of, IsNarrowOf};
+    ghost use Rattle.pg_table.specs.Ranges.{ranged_of, ranged_least_of};
     ghost use Rattle.pg_table.specs.Spanning.{keeps_spans};
     ghost use Rattle.pg_table.specs.Inside.{IsFitted, plain_full_width};
-    ghost use Rattle.pg_table.specs.Printing.{printed_table_of, natural_parts};
+    ghost use Rattle.pg_table.specs.Printing.{printed_table_of, natural_parts, sizes_fault_of};
 
     /// The width of a line, in terminal columns, if each column is as narrow as wrapping or cutting
     /// can make it, including the side margins and the column lines. A table without spans can't
@@ -162,6 +163,40 @@ where
             config: self.config,
             colors: self.colors,
         })
+    }
+
+    /// [`NaturalTable::within`] with ranges for the first columns, paddings included: a column is
+    /// narrowed no further than the `least` of its range, and at most as wide as the `natural` of
+    /// it, unless its texts or its `least` need more. Columns after the last range may have any
+    /// width.
+    ///
+    /// Its lines are at most that wide, or as wide as the least widths together, if the tail is
+    /// printable ASCII and ellipses. Errors are those of [`NaturalTable::natural_dimension`]; a
+    /// table without cells has none.
+    pub fn within_columns<A: Allocator + Copy>(
+        &self,
+        alloc: A,
+        width: usize,
+        ranges: &[ColumnRange],
+        how: Overflow,
+    ) -> Result<FittedTable<'a, R, C, B, A>, TableFault>
+        ensures table { IfOk result (λ fitted. printed_fitted_table R.texts R.columns C.color fitted ≡ ranged_of how.entry width ranges.now R.texts R.columns C.color (natural_parts self.now)) }
+        ensures bound { HasPlainTail how.entry
+            → IfOk result (λ fitted. full_width (printed_fitted_table R.texts R.columns C.color fitted) ≤ max width (ranged_least_of how.entry ranges.now R.texts R.columns (natural_parts self.now))) }
+        ensures fault { (fault : TableFault) → is_empty (printed_table_of R.texts R.columns C.color (natural_parts self.now)) ≡ false
+            → sizes_fault_of R.texts R.columns (natural_parts self.now) ≡ Some fault → result ≡ Err fault }
+        ensures memory { (fault : TableFault) → sizes_fault_of R.texts R.columns (natural_parts self.now) ≡ None → result ≡ Err fault → fault ≡ TableFault.Memory }
+        ensures empty { is_empty (printed_table_of R.texts R.columns C.color (natural_parts self.now)) ≡ true → IsOk result }
+    {
+        if self.is_empty() {
+            return self.within(alloc, width, how);
+        }
+        let natural = NaturalTable::new(self.records, self.config, self.colors);
+        let dimension = natural.natural_dimension(alloc)?;
+        let widths = self
+            .sizes()
+            .ranged_widths(alloc, width, ranges, how, &dimension.0)?;
+        self.within_limits(alloc, usize::MAX, &widths, how)
     }
 
     // Sets other texts for the cells whose texts are too wide for their columns, and returns the

@@ -24,4 +24,4 @@ pub use crate::natural::{NaturalTable, heights_for};
 pub use crate::overflow::Overflow;
 pub use crate::sizes::Axis;
 pub use crate::table::Table;
-pub use pg_fit::Breaking;
+pub use pg_fit::{Breaking, ColumnRange};

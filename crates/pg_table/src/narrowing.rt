@@ -10,6 +10,7 @@ ghost use Rattle.pg_picture.specs.Sizes.{if_fits};
 ghost use Rattle.pg_fit.specs.Overlaid.{other_text};
 ghost use Rattle.pg_table.specs.Natural.{paddings, all_fit};
 ghost use Rattle.pg_table.specs.Fitted.{least_text_width, beside_columns, limit_of, column_ranges, IsNarrow};
+ghost use Rattle.pg_table.specs.Ranges.{ranged, range_of};
 ghost use Rattle.pg_table.specs.Inside.{text_of, rows_of, least_of, naturals_of, widths_of, AreWithin, fitted_to, HasRoomAt, FitsColumn, AreFittedBelow};
 ghost use Rattle.pg_table.specs.declared.sizes.Axis.TheVariants.{Columns};
 
@@ -26,6 +27,28 @@ pub(crate) fn limit_of(limits: &[usize], column: usize) -> usize
     ensures { result ≡ limit_of limits.now column }
 {
     limits.get(column).copied().unwrap_or(usize::MAX)
+}
+
+/// How narrow a column of this least and natural width may be, and how wide with enough room, if
+/// the first columns have ranges.
+pub(crate) fn ranged_column(
+    ranges: &[ColumnRange],
+    column: usize,
+    least: usize,
+    natural: usize,
+) -> ColumnRange
+    ensures { result ≡ ranged (range_of ranges.now column) least natural }
+{
+    let any = ColumnRange {
+        least: 0,
+        natural: usize::MAX,
+    };
+    let own = ranges.get(column).copied().unwrap_or(any);
+    let range = ColumnRange {
+        least: least.max(own.least.min(natural)),
+        natural,
+    };
+    range.limited(own.natural)
 }
 
 /// What a total leaves to so many columns: it without their column lines and the side margins.

@@ -1,6 +1,6 @@
 //! Tables that keep spans, within a width: texts are fitted to all columns of their cells.
 
-ghost use Rattle.std.specs.Prelude.{◌≡◌, ◌⊎◌, ℕ, ◌+◌, ◌^◌, ◌-◌, ◌<◌, ◌≤◌, min, true, false, nat_lt, is_some, Some, None, Err, IfOk, IsOk, IfSome, OnOk, [], length, map, slice_index, if◌then◌else◌};
+ghost use Rattle.std.specs.Prelude.{◌≡◌, ◌==◌, ◌||◌, ◌⊎◌, ℕ, ◌+◌, ◌^◌, ◌-◌, ◌<◌, ◌≤◌, min, true, false, nat_lt, is_some, Some, None, Err, IfOk, IsOk, IfSome, OnOk, [], length, map, slice_index, if◌then◌else◌};
 ghost use Rattle.std.specs.List.{range_with_len, list_all};
 ghost use Rattle.pg_fit.specs.Overlaid.{other_text};
 ghost use Rattle.pg_fit.specs.Narrowing.{limited};
@@ -15,12 +15,13 @@ ghost use Rattle.pg_table.specs.Natural.{is_single, natural_sizes, cells_fit};
 ghost use Rattle.pg_table.specs.Fitted.{fit_fault_of, least_fault_of, least_width_of};
 ghost use Rattle.pg_table.specs.Overflowing.{limit_of};
 ghost use Rattle.pg_table.specs.Printing.{natural_parts};
+ghost use Rattle.pg_table.specs.Ranges.{ranged_widths};
 ghost use Rattle.pg_table.specs.Spanning.{keeps_spans, singles_width, room_needed, least_cell_width, spanned_least_width, are_within, spanned_widths, cell_room, spanned_text};
 ghost use Rattle.pg_table.specs.Inside.{IsHugeLeast, HasHugeLeast, HasRoomTogether, AreFittedTo, AreFittedTogether};
 ghost use Rattle.pg_table.specs.declared.sizes.Axis.TheVariants.{Columns};
 
 use crate::fault::TableFault;
-use crate::narrowing::{limit_of, room_of};
+use crate::narrowing::{limit_of, ranged_column, room_of};
 use crate::natural::NaturalTable;
 use crate::needs::{Need, widened};
 use crate::overflow::{Overflow, Within};
@@ -228,6 +229,36 @@ impl<'a, R: PeekableRecords + ExactRecords, B: Allocator> NaturalSizes<'a, R, B>
             // The least width of no cell is greater than its natural one, which is a number.
             None => Vec::from_slice(alloc, naturals),
         }
+    }
+
+    /// The widths of the columns of a table with cells within a total, if the first columns have
+    /// these ranges, given the natural ones.
+    pub(crate) fn ranged_widths<A: Allocator + Copy>(
+        &self,
+        alloc: A,
+        total: usize,
+        ranges: &[ColumnRange],
+        how: Overflow,
+        naturals: &[usize],
+    ) -> Result<Vec<usize, A>, AllocError>
+        requires cells { ((length (R.texts self.now.records) == 0) || (R.columns self.now.records == 0)) ≡ false }
+        requires fit { spans_fit self.now.config.now.spans (length (R.texts self.now.records)) (R.columns self.now.records) ≡ true }
+        requires sized { cells_fit self.now.config.now (text_at (R.texts self.now.records)) (length (R.texts self.now.records)) (R.columns self.now.records) ≡ true }
+        requires naturals { naturals.now ≡ natural_sizes Columns self.now.config.now (R.texts self.now.records) (R.columns self.now.records) }
+        ensures counted { IsOk result → R.columns self.now.records < usize.MAX }
+        ensures widths { IfOk result (λ widths. widths.items
+            ≡ ranged_widths how.entry ranges.now self.now.config.now (R.texts self.now.records) (R.columns self.now.records) total) }
+    {
+        // The least width of no cell is greater than its natural one, which is a number.
+        let Some(least) = self.least_widths(alloc, how)? else {
+            return Vec::from_slice(alloc, naturals);
+        };
+        let mut made = Vec::with_capacity(alloc, naturals.len())?;
+        for (column, natural) in naturals.iter().enumerate() {
+            made.push(ranged_column(ranges, column, least[column], *natural))?;
+        }
+        let room = room_of(self.config, total, naturals.len());
+        narrow(alloc, room, &made)
     }
 
     // Sets another text for a shown cell whose text is too wide for its columns.

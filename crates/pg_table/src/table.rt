@@ -8,6 +8,7 @@ use crate::fitted::FittedTable;
 use crate::natural::NaturalTable;
 use crate::overflow::Overflow;
 use pg_config::SpannedConfig;
+use pg_fit::ColumnRange;
 use pg_layout::{
     AlignmentHorizontal, Borders, ColorsMap, ConstantDimension, Entity, ExactRecords,
     HorizontalLine, Indent, Records, Sides, VecRecords,
@@ -156,6 +157,7 @@ impl<T: AsStr + Drop, A: Allocator> Table<T, A> {
     ghost use Rattle.pg_picture.specs.Picture.{picture};
     ghost use Rattle.pg_picture.specs.Table.{Known, full_width, is_empty};
     ghost use Rattle.pg_table.specs.Fitted.{HasPlainTail, limit_of, drawn_rows, fitted_rows, fit_fault_rows, keeps_spans_rows, least_at_rows, least_fault_rows, least_width_rows, IsNarrowRows};
+    ghost use Rattle.pg_table.specs.Ranges.{ranged_rows, ranged_least_rows};
     ghost use Rattle.pg_table.specs.OwnRows.{headed, own_sizes, own_sizes_fault};
     ghost use Rattle.pg_table.specs.Even.{IsEven, IsEvenText, IsNarrowLook, is_of_line_glyphs};
     ghost use Rattle.pg_table.specs.Printing.{fault_of, is_spanned, printed_table, CanFail, Prints};
@@ -316,6 +318,30 @@ impl<T: AsStr + Drop, A: Allocator> Table<T, A> {
         ensures narrow { fit_fault_rows T.text self.now ≡ None → self.now.config.spans ≡ [] → IsNarrowRows width limits.now T.text self.now → IsOk result }
     {
         self.natural().within_limits(alloc, width, limits, how)
+    }
+
+    /// [`Table::within`] with ranges for the first columns ([`NaturalTable::within_columns`]).
+    ///
+    /// ```text
+    /// // column 0 is never narrowed, column 1 is at most 20 wide and not narrowed below 8
+    /// let whole = ColumnRange { least: usize::MAX, natural: usize::MAX };
+    /// let ranges = [whole, ColumnRange { least: 8, natural: 20 }];
+    /// table.within_columns(alloc, 80, &ranges, how)?.print(alloc, &mut buf)?;
+    /// ```
+    pub fn within_columns<B: Allocator + Copy>(
+        &self,
+        alloc: B,
+        width: usize,
+        ranges: &[ColumnRange],
+        how: Overflow,
+    ) -> Result<FittedTable<'_, &VecRecords<T, A>, ColorsMap<A>, A, B>, TableFault>
+        ensures table { IfOk result (λ fitted. drawn_rows T.text fitted ≡ ranged_rows how.entry width ranges.now T.text self.now) }
+        ensures bound { HasPlainTail how.entry → IfOk result (λ fitted. full_width (drawn_rows T.text fitted) ≤ max width (ranged_least_rows how.entry ranges.now T.text self.now)) }
+        ensures fault { (fault : TableFault) → is_empty (printed_table T.text self.now) ≡ false → own_sizes_fault T.text self.now ≡ Some fault → result ≡ Err fault }
+        ensures memory { (fault : TableFault) → own_sizes_fault T.text self.now ≡ None → result ≡ Err fault → fault ≡ TableFault.Memory }
+        ensures empty { is_empty (printed_table T.text self.now) ≡ true → IsOk result }
+    {
+        self.natural().within_columns(alloc, width, ranges, how)
     }
 
     // Why the table has no natural sizes ([`Table::natural_dimension`]). Allocates nothing.

@@ -1,5 +1,4 @@
 use Rattle.std.proofs.Common.{◌≡◌, ◌==◌, ◌||◌, ℕ, Bool, true, false, not, List, length, Some, None, Result, Ok, Err, is_ok, refl, sym, ap, subst, ◌∙◌}
-use Rattle.std.specs.Result.{result_err}
 use Rattle.std.proofs.lemmas.Bool.{false≢true}
 use Rattle.pg_layout.specs.Records.{text_at}
 use Rattle.pg_layout.specs.Text.{Text}
@@ -9,13 +8,13 @@ use Rattle.pg_fit.specs.Overlaid.{other_text}
 use Rattle.pg_table.specs.Fitted.{fit_fault}
 use Rattle.pg_table.specs.Inside.{AreFittedTo}
 use Rattle.pg_table.specs.Natural.{cells_fit}
-use Rattle.pg_table.specs.Printing.{sizes_fault, sizes_fault_of, sizes_of}
+use Rattle.pg_table.specs.Printing.{sizes_fault, sizes_of}
 use Rattle.pg_table.specs.Spanning.{keeps_spans}
 use Rattle.pg_table.specs.declared.fault.TableFault.{TableFault}
-use Rattle.pg_table.specs.declared.fault.TableFault.TheVariants.{Memory}
 use Rattle.pg_table.specs.declared.sizes.Axis.TheVariants.{Columns}
 use Rattle.pg_table.proofs.Faults.{fault-is}
-use Rattle.pg_table.proofs.FitFaults.{kept-parts, not-both, fault-spans, told-fits, told-none, handed-on, same-fault as one-fault}
+use Rattle.pg_table.proofs.FitFaults.{kept-parts, not-both, fault-spans, told-fits, told-none, handed-on}
+use Rattle.pg_table.proofs.FittedTables.{told-fault, told-memory, err-same}
 use Rattle.pg_table.proofs.natural.NaturalTable.fit_spanned.Goals as goal
 
 module _ (config : Config) (texts : List (List Text)) (columns : ℕ) (kept : keeps_spans config texts columns ≡ true) where
@@ -38,18 +37,6 @@ module _ (config : Config) (texts : List (List Text)) (columns : ℕ) (kept : ke
 
     not-there : (fault : TableFault) → fit_fault config texts columns ≡ Some fault → ⊥
     not-there fault h = not-both (fit_fault config texts columns) fault (same-fault ∙ none) h
-
--- what the natural table of the same parts tells
-told-fault : {R C X : Type 0} (texts : R → List (List Text)) (columns : R → ℕ) {a b : R × Config × C × List ℕ} {r : Result X TableFault} → a ≡ b
-    → ((fault : TableFault) → sizes_fault_of texts columns a ≡ Some fault → r ≡ Err fault) → (fault : TableFault) → sizes_fault_of texts columns b ≡ Some fault → r ≡ Err fault
-told-fault texts columns {r} same h = subst (λ parts. (fault : TableFault) → sizes_fault_of texts columns parts ≡ Some fault → r ≡ Err fault) same h
-
-told-memory : {R C X : Type 0} (texts : R → List (List Text)) (columns : R → ℕ) {a b : R × Config × C × List ℕ} {r : Result X TableFault} → a ≡ b
-    → ((fault : TableFault) → sizes_fault_of texts columns a ≡ None → r ≡ Err fault → fault ≡ Memory) → (fault : TableFault) → sizes_fault_of texts columns b ≡ None → r ≡ Err fault → fault ≡ Memory
-told-memory texts columns {r} same h = subst (λ parts. (fault : TableFault) → sizes_fault_of texts columns parts ≡ None → r ≡ Err fault → fault ≡ Memory) same h
-
-err-same : {X : Type 0} (a b : TableFault) → ◌≡◌ {A = Result X TableFault} (Err a) (Err b) → a ≡ b
-err-same a b e = one-fault a b (ap result_err e)
 
 pub returns-in_err-dimension-clause-fault : goal.returns-in_err-dimension-clause-fault
 returns-in_err-dimension-clause-fault g c = λ fault h.
