@@ -1,5 +1,5 @@
 -- What calls of `Table` make of a table, each worked out by hand.
-use Rattle.std.proofs.Common.{◌≡◌, ℕ, ◌-◌, List, [], ◌∷◌, ◌++◌, refl, Option, Some, None}
+use Rattle.std.proofs.Common.{◌≡◌, ℕ, ◌-◌, ◌^◌, List, [], ◌∷◌, ◌++◌, refl, Option, Some, None}
 use Rattle.std.specs.Prelude.{codes}
 use Rattle.pg_layout.specs.declared.alignment.AlignmentHorizontal.TheVariants as across
 use Rattle.pg_layout.specs.declared.borders.Border.{Border}
@@ -14,23 +14,35 @@ use Rattle.pg_config.specs.LineGlyphs.{line_place, with_line_glyphs}
 use Rattle.pg_config.specs.Overrides.{with_row_line}
 use Rattle.pg_config.specs.Settings.{with_setting}
 use Rattle.pg_fit.specs.Escapes.{without_escapes}
+use Rattle.pg_fit.specs.Narrowing.{level, narrowed}
+use Rattle.pg_fit.specs.Wrapping.{least_width}
+use Rattle.pg_fit.specs.declared.wrapping.Breaking.TheVariants.{Anywhere}
 use Rattle.pg_picture.proofs.Computing.{grid_words}
 use Rattle.pg_picture.specs.Picture.{picture}
 use Rattle.pg_picture.specs.Pieces.{joined}
 use Rattle.pg_picture.specs.Samples.{plain, bordered}
 use Rattle.pg_picture.specs.Table.{Known}
 use Rattle.pg_table.specs.Coloring.{with_stripes}
+use Rattle.pg_table.specs.Fitted.{least_column_width, least_width_at}
 use Rattle.pg_table.specs.Markup.{html_text, html_cell, html_row, html_table, escaped_text, delimiter_row, markdown_cell, markdown_row, markdown_table}
 use Rattle.pg_table.specs.Natural.{lacking as lacks, widening, widened, size_of_singles, natural_size, natural_sizes}
 use Rattle.pg_table.specs.Numbers.{is_number, lacking}
 use Rattle.pg_table.specs.OwnRows.{transposed, padded, with_panel_row, spaced_config, titled, titled_at, captioned, numbered, widened_right, longest_rest, aligned, merged}
 use Rattle.pg_table.specs.Panels.{with_title_at, with_title, ruled, frame_round, frame_horizontal, frame_vertical, frame_crossing, column_vertical, column_crossing}
 use Rattle.pg_table.specs.Printing.{Parts, printed_table}
+use Rattle.pg_table.specs.Ranges.{ranged_widths}
+use Rattle.pg_table.specs.declared.overflow.Overflow.TheVariants.{Wrap}
 use Rattle.pg_laws.specs.Samples.{color_r}
+use Rattle.unicode_segmentation.proofs.Computing.{unicode_segmentation}
 
 unfoldable table_words : Unit {0}
 unfolding grid_words lacks widening widened size_of_singles natural_size natural_sizes is_number with_row_line line_place with_line_glyphs with_title_at with_title html_text html_cell html_row escaped_text delimiter_row markdown_cell markdown_row without_escapes
 table_words = tt
+
+-- and what lets it compute the widths of columns within a total
+unfoldable width_words : Unit {0}
+unfolding table_words unicode_segmentation level narrowed least_width least_column_width least_width_at ranged_widths
+width_words = tt
 
 -- a table of texts, and what it draws
 abbrev with_rows : Config → List (List Text) → Parts Text
@@ -103,6 +115,20 @@ points_below_one_another : drawn (aligned (Column 0) across.Right (with_rows (wi
     ≡ joined (codes "    x" ∷ codes " 1.25" ∷ codes "10   " ∷ codes "-0.5 " ∷ [])
 unfolding table_words
 points_below_one_another = refl
+
+-- two columns that need four and six
+abbrev wide_texts : List (List Text)
+wide_texts = (codes "aaaa" ∷ codes "bbbbbb" ∷ []) ∷ []
+
+-- within seven the first one, which may be two wide, leaves five to the other
+a_column_of_at_most_two : ranged_widths (Wrap Anywhere) (record { least = 0; natural = 2 } ∷ []) plain wide_texts 2 7 ≡ 2 ∷ 5 ∷ []
+unfolding width_words
+a_column_of_at_most_two = refl
+
+-- within six the first one keeps four
+a_column_of_at_least_four : ranged_widths (Wrap Anywhere) (record { least = 4; natural = 2 ^ 64 - 1 } ∷ []) plain wide_texts 2 6 ≡ 4 ∷ 2 ∷ []
+unfolding width_words
+a_column_of_at_least_four = refl
 
 -- ---- lines
 
