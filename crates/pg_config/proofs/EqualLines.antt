@@ -1,5 +1,5 @@
 -- Row lines and column lines: which are equal, which have no glyph, and what all cells have in common.
-use Rattle.std.proofs.Common.{◌≡◌, ℕ, ◌<◌, Bool, true, false, not, ◌||◌, ◌==◌, nat_lt, List, [], ◌∷◌, None, refl, arith, ap, zero, suc, ◌+◌, ◌-◌, ◌^◌, ◌≤◌, ◌&&◌, ◌++◌, length, get_or, drop, Option, Some, cond, sum_by, count_by, sym, subst, ◌∙◌, append_assoc, zero-add, inl, inr, is_some, min, if◌then◌else◌}
+use Rattle.std.proofs.Common.{◌≡◌, ℕ, ◌<◌, Bool, true, false, not, ◌||◌, ◌==◌, nat_lt, List, [], ◌∷◌, None, refl, arith, ap, zero, suc, ◌+◌, ◌-◌, ◌^◌, ◌≤◌, ◌&&◌, ◌++◌, length, get_or, drop, Option, Some, cond, sum_by, count_by, sym, subst, ◌∙◌, append_assoc, append-nil, zero-add, inl, inr, is_some, min, if◌then◌else◌}
 use Rattle.std.proofs.lemmas.Bool.{and_parts, false≢true, cases_Bool, or_parts}
 use Rattle.std.proofs.lemmas.Bool.Decides.{nat_tests}
 use Rattle.pg_layout.specs.declared.position.Position.{Position}
@@ -15,7 +15,8 @@ use Rattle.std.specs.Int.{from_bool}
 use Rattle.std.specs.List.{find, range_with_len}
 use Rattle.std.proofs.lemmas.List.{drop_more}
 use Rattle.std.proofs.lemmas.List.Folds.{find-append}
-use Rattle.pg_config.specs.LineGlyphs.{first_of_column, ends_behind, place_in, line_place, over_line}
+use Rattle.pg_layout.specs.Colors.{Color}
+use Rattle.pg_config.specs.LineGlyphs.{first_of_column, ends_behind, place_in, line_place, over_line, over_columns}
 use Rattle.pg_config.specs.declared.line_glyphs.LinePlace.{LinePlace}
 use Rattle.pg_config.specs.declared.line_glyphs.LinePlace.TheVariants.{Glyph, Crossing}
 use Rattle.pg_config.proofs.CoveredPlaces.{range-add, sum_by-from_more}
@@ -292,6 +293,36 @@ over-more f items first i gs place x within here is =
     ∙ ap (λ n. items ++ (place, x) ∷ over_line f n (drop (i + 1) gs)) count
     ∙ ap (λ p. items ++ (p, x) ∷ over_line f (first + i + 1) (drop (i + 1) gs)) is
     ∙ ap (λ z. items ++ over_line f (first + i) z) (sym rest)
+
+-- so of columns that get one colour
+module _ (f : ℕ → Option LinePlace) (v : Color) where
+  columns-suc : (k n : ℕ) → is_some (f k) ≡ true → over_columns f k (suc n) v ≡ (f k, v) ∷ over_columns f (k + 1) n v
+  columns-suc k n some = rw some refl
+
+  columns-end : (k n : ℕ) → is_some (f k) ≡ false → over_columns f k n v ≡ []
+  columns-end k zero none = refl
+  columns-end k (suc n) none = rw none refl
+
+  pub columns-more : (items : List (Option LinePlace × Color)) (first i count : ℕ) (place : Option LinePlace) (x : Color) → i < count → place ≡ f (first + i) → is_some place ≡ true → x ≡ v
+      → (items ++ (place, x) ∷ []) ++ over_columns f (first + (i + 1)) (count - (i + 1)) v ≡ items ++ over_columns f (first + i) (count - i) v
+  columns-more items first i count place x within is some told =
+      let left : count - i ≡ suc (count - (i + 1)) = omega arith in
+      let next : first + (i + 1) ≡ first + i + 1 = omega arith in
+      append_assoc items ((place, x) ∷ []) _
+      ∙ ap (λ y. items ++ (place, y) ∷ over_columns f (first + (i + 1)) (count - (i + 1)) v) told
+      ∙ ap (λ p. items ++ (p, v) ∷ over_columns f (first + (i + 1)) (count - (i + 1)) v) is
+      ∙ ap (λ k. items ++ (f (first + i), v) ∷ over_columns f k (count - (i + 1)) v) next
+      ∙ ap (λ z. items ++ z) (sym (columns-suc (first + i) (count - (i + 1)) (ap is_some (sym is) ∙ some)))
+      ∙ ap (λ n. items ++ over_columns f (first + i) n v) (sym left)
+
+  pub columns-past : (items : List (Option LinePlace × Color)) (first i count : ℕ) (place : Option LinePlace) → place ≡ f (first + i) → is_some place ≡ false
+      → items ≡ items ++ over_columns f (first + i) (count - i) v
+  columns-past items first i count place is none = sym (append-nil items) ∙ ap (λ z. items ++ z) (sym (columns-end (first + i) (count - i) (ap is_some (sym is) ∙ none)))
+
+  pub columns-all : (items : List (Option LinePlace × Color)) (first i count : ℕ) → count ≤ i → items ≡ items ++ over_columns f (first + i) (count - i) v
+  columns-all items first i count all =
+      let none : count - i ≡ 0 = omega arith in
+      sym (append-nil items) ∙ ap (λ n. items ++ over_columns f (first + i) n v) (sym none)
 
 -- ---- a row line of which no glyph has a place overrides nothing
 

@@ -1,6 +1,7 @@
--- Characters over the glyphs of a row line, one for each column of the terminal.
-use Rattle.std.specs.Prelude.{ℕ, ◌+◌, ◌-◌, ◌^◌, Bool, nat_lt, List, [], ◌∷◌, Option, Some, None, sum_by, count_by, if◌then◌else◌}
+-- Characters over the glyphs of a row line, and colours of its glyphs, one for each column of the terminal.
+use Rattle.std.specs.Prelude.{ℕ, zero, suc, ◌+◌, ◌-◌, ◌^◌, Bool, true, ◌&&◌, nat_lt, List, [], ◌∷◌, Option, Some, None, is_some, sum_by, count_by, if◌then◌else◌}
 use Rattle.std.specs.List.{find, range_with_len}
+use Rattle.pg_layout.specs.Colors.{Color}
 use Rattle.pg_layout.specs.Keys.{by_place}
 use Rattle.pg_layout.specs.Places.{with_place}
 use Rattle.pg_layout.specs.Position.{at}
@@ -32,31 +33,37 @@ unfoldable pub line_place : Config → ℕ → (ℕ → ℕ) → ℕ → Option 
 line_place config columns width k =
     if nat_lt k (2 ^ 64) then place_in config columns width k (find (ends_behind config columns width k) (range_with_len 0 columns)) else None
 
--- the characters, each with its place, the first one at column k
-abbrev pub over_line : (ℕ → Option LinePlace) → ℕ → List ℕ → List (Option LinePlace × ℕ)
-over_line place k [] = []
-over_line place k (g ∷ gs) = (place k, g) ∷ over_line place (k + 1) gs
+module _ {V : Type 0} where
+  -- the values, each with its place, the first one at column k
+  abbrev pub over_line : (ℕ → Option LinePlace) → ℕ → List V → List (Option LinePlace × V)
+  over_line place k [] = []
+  over_line place k (v ∷ vs) = (place k, v) ∷ over_line place (k + 1) vs
 
--- a character at a glyph of a horizontal of row line r
-abbrev pub with_glyph : ℕ → Option LinePlace → ℕ → List (GlyphPlace × ℕ) → List (GlyphPlace × ℕ)
-with_glyph r None g es = es
-with_glyph r (Some (Glyph c i)) g es = with_place by_glyph (glyph_at (at r c) i) g es
-with_glyph r (Some (Crossing c)) g es = es
+  -- one value for each of so many columns from column k on, up to the end of the line
+  abbrev pub over_columns : (ℕ → Option LinePlace) → ℕ → ℕ → V → List (Option LinePlace × V)
+  over_columns place k zero v = []
+  over_columns place k (suc n) v = if is_some (place k) then (place k, v) ∷ over_columns place (k + 1) n v else []
 
--- a character at a crossing of row line r
-abbrev pub with_crossing : ℕ → Option LinePlace → ℕ → List (Position × ℕ) → List (Position × ℕ)
-with_crossing r None g es = es
-with_crossing r (Some (Glyph c i)) g es = es
-with_crossing r (Some (Crossing c)) g es = with_place by_place (at r c) g es
+  -- a value at a glyph of a horizontal of row line r
+  abbrev pub with_glyph : ℕ → Option LinePlace → V → List (GlyphPlace × V) → List (GlyphPlace × V)
+  with_glyph r None v es = es
+  with_glyph r (Some (Glyph c i)) v es = with_place by_glyph (glyph_at (at r c) i) v es
+  with_glyph r (Some (Crossing c)) v es = es
 
--- all of them, one after another
-abbrev pub with_glyphs : ℕ → List (Option LinePlace × ℕ) → List (GlyphPlace × ℕ) → List (GlyphPlace × ℕ)
-with_glyphs r [] es = es
-with_glyphs r (o ∷ over) es = with_glyphs r over (with_glyph r o.0 o.1 es)
+  -- a value at a crossing of row line r
+  abbrev pub with_crossing : ℕ → Option LinePlace → V → List (Position × V) → List (Position × V)
+  with_crossing r None v es = es
+  with_crossing r (Some (Glyph c i)) v es = es
+  with_crossing r (Some (Crossing c)) v es = with_place by_place (at r c) v es
 
-abbrev pub with_line_crossings : ℕ → List (Option LinePlace × ℕ) → List (Position × ℕ) → List (Position × ℕ)
-with_line_crossings r [] es = es
-with_line_crossings r (o ∷ over) es = with_line_crossings r over (with_crossing r o.0 o.1 es)
+  -- all of them, one after another
+  abbrev pub with_glyphs : ℕ → List (Option LinePlace × V) → List (GlyphPlace × V) → List (GlyphPlace × V)
+  with_glyphs r [] es = es
+  with_glyphs r (o ∷ over) es = with_glyphs r over (with_glyph r o.0 o.1 es)
+
+  abbrev pub with_line_crossings : ℕ → List (Option LinePlace × V) → List (Position × V) → List (Position × V)
+  with_line_crossings r [] es = es
+  with_line_crossings r (o ∷ over) es = with_line_crossings r over (with_crossing r o.0 o.1 es)
 
 abbrev pub with_over : ℕ → List (Option LinePlace × ℕ) → Config → Config
 with_over r over config = record config {
@@ -69,3 +76,17 @@ with_over r over config = record config {
 unfoldable pub with_line_glyphs : ℕ → ℕ → ℕ → (ℕ → ℕ) → ℕ → List ℕ → Config → Config
 with_line_glyphs r rows columns width k glyphs config =
     if has_horizontal config r rows then with_over r (over_line (line_place config columns width) k glyphs) config else config
+
+-- The same of colours, which are colours of border lines.
+abbrev pub with_colors_over : ℕ → List (Option LinePlace × Color) → Config → Config
+with_colors_over r over config = record config {
+  horizontal_colors = record config.horizontal_colors { from_start = with_glyphs r over config.horizontal_colors.from_start };
+  color_overrides = record config.color_overrides { crossings = with_line_crossings r over config.color_overrides.crossings };
+  border_colored = true;
+}
+
+-- Row line r of such a table, with this colour for so many of its columns from column k on, where it has them. Without columns nothing
+-- changes.
+unfoldable pub with_line_color : ℕ → ℕ → ℕ → (ℕ → ℕ) → ℕ → ℕ → Color → Config → Config
+with_line_color r rows columns width k count color config =
+    if nat_lt 0 count && has_horizontal config r rows then with_colors_over r (over_columns (line_place config columns width) k count color) config else config

@@ -1,15 +1,15 @@
-//! Characters over the glyphs of a row line, and their places.
+//! Characters and colours over the glyphs of a row line, and their places.
 
 ghost use Rattle.std.specs.Prelude.{◌≡◌, ◌+◌, ◌&&◌, nat_lt, OnOk, IfOk};
 ghost use Rattle.pg_config.specs.Config.{has_vertical};
-ghost use Rattle.pg_config.specs.LineGlyphs.{line_place, over_line, with_glyph, with_crossing, with_glyphs, with_line_crossings};
+ghost use Rattle.pg_config.specs.LineGlyphs.{line_place, over_line, over_columns, with_glyph, with_crossing, with_glyphs, with_line_crossings};
 ghost use Rattle.pg_config.specs.Overrides.{HasColumns};
 
 use crate::lines::put_crossing;
 use crate::noted_places::NotedPlaces;
 use crate::offsets::GlyphPlace;
 use crate::spanned::SpannedConfig;
-use pg_layout::{Dimension, Position};
+use pg_layout::{ANSIBuf, ANSIFmt, Dimension, Position};
 use std::alloc::{AllocError, Allocator};
 
 /// What one column of a row line is.
@@ -86,42 +86,67 @@ pub(crate) fn over_line<A: Allocator + Copy, D: Dimension>(
     Ok(over)
 }
 
-// Puts the characters at their places in a row line, or some of them if memory is refused.
+// Copies of this colour, each with its place, for so many columns of a row line, the first of them
+// column `first`, up to the end of the line.
+pub(crate) fn over_columns<A: Allocator + Copy, D: Dimension>(
+    alloc: A,
+    config: &SpannedConfig<A>,
+    columns: usize,
+    dimension: &D,
+    first: usize,
+    count: usize,
+    color: &ANSIBuf<A>,
+) -> Result<Vec<(Option<LinePlace>, ANSIBuf<A>), A>, AllocError>
+    ensures over { IfOk result (λ over. over.items ≡ over_columns (line_place config.now columns (D.width dimension.now)) first count color.now) }
+{
+    let mut over = Vec::new(alloc);
+    for i in 0..count {
+        let place = place_over(config, columns, dimension, first, i);
+        if place.is_none() {
+            return Ok(over);
+        }
+        let color = ANSIBuf::new(alloc, color.prefix(), color.suffix())?;
+        over.push((place, color))?;
+    }
+    Ok(over)
+}
+
+// Puts the values at their places in a row line, or some of them if memory is refused.
 //
 // Each column of a crossing is listed, as in all `Overrides`.
-pub(crate) fn put_over<A: Allocator + Clone>(
-    glyphs: &mut NotedPlaces<GlyphPlace, char, A>,
-    crossings: &mut NotedPlaces<Position, char, A>,
+pub(crate) fn put_over<G: Drop, A: Allocator + Clone>(
+    glyphs: &mut NotedPlaces<GlyphPlace, G, A>,
+    crossings: &mut NotedPlaces<Position, G, A>,
     columns: &mut NotedPlaces<usize, (), A>,
     row: usize,
-    over: &[(Option<LinePlace>, char)],
+    over: Vec<(Option<LinePlace>, G), A>,
 ) -> Result<(), AllocError>
     requires has_columns { HasColumns columns.old.now crossings.old.now }
-    ensures glyphs { OnOk result (glyphs.new.now ≡ with_glyphs row over.now glyphs.old.now) }
-    ensures crossings { OnOk result (crossings.new.now ≡ with_line_crossings row over.now crossings.old.now) }
+    ensures glyphs { OnOk result (glyphs.new.now ≡ with_glyphs row over.items glyphs.old.now) }
+    ensures crossings { OnOk result (crossings.new.now ≡ with_line_crossings row over.items crossings.old.now) }
     ensures has_columns { OnOk result (HasColumns columns.new.now crossings.new.now) }
     ensures before { glyphs.new.before ≡ glyphs.old.before }
     ensures before_crossings { crossings.new.before ≡ crossings.old.before }
     ensures before_columns { columns.new.before ≡ columns.old.before }
 {
-    for (place, glyph) in over {
-        put_one(glyphs, crossings, columns, row, *place, *glyph)?;
+    for (place, value) in over {
+        put_one(glyphs, crossings, columns, row, place, value)?;
     }
     Ok(())
 }
 
-// Puts a character at its place in a row line, if it has one.
-fn put_one<A: Allocator + Clone>(
-    glyphs: &mut NotedPlaces<GlyphPlace, char, A>,
-    crossings: &mut NotedPlaces<Position, char, A>,
+// Puts a value at its place in a row line, if it has one.
+fn put_one<G: Drop, A: Allocator + Clone>(
+    glyphs: &mut NotedPlaces<GlyphPlace, G, A>,
+    crossings: &mut NotedPlaces<Position, G, A>,
     columns: &mut NotedPlaces<usize, (), A>,
     row: usize,
     place: Option<LinePlace>,
-    glyph: char,
+    value: G,
 ) -> Result<(), AllocError>
     requires has_columns { HasColumns columns.old.now crossings.old.now }
-    ensures glyphs { OnOk result (glyphs.new.now ≡ with_glyph row place glyph glyphs.old.now) }
-    ensures crossings { OnOk result (crossings.new.now ≡ with_crossing row place glyph crossings.old.now) }
+    ensures glyphs { OnOk result (glyphs.new.now ≡ with_glyph row place value glyphs.old.now) }
+    ensures crossings { OnOk result (crossings.new.now ≡ with_crossing row place value crossings.old.now) }
     ensures has_columns { OnOk result (HasColumns columns.new.now crossings.new.now) }
     ensures before { glyphs.new.before ≡ glyphs.old.before }
     ensures before_crossings { crossings.new.before ≡ crossings.old.before }
@@ -129,10 +154,10 @@ fn put_one<A: Allocator + Clone>(
 {
     match place {
         Some(LinePlace::Glyph(col, number)) => {
-            glyphs.put(GlyphPlace::new(Position { row, col }, number), Some(glyph))
+            glyphs.put(GlyphPlace::new(Position { row, col }, number), Some(value))
         }
         Some(LinePlace::Crossing(col)) => {
-            put_crossing(crossings, columns, Position { row, col }, Some(glyph))
+            put_crossing(crossings, columns, Position { row, col }, Some(value))
         }
         None => Ok(()),
     }

@@ -139,6 +139,26 @@ impl<G: Drop, A: Allocator + Clone> Lines<G, A> {
             (at_bottom_right, border.bottom_right),
         )
     }
+
+    /// Puts values at their places in a row line, here those at crossings, or some of them if memory
+    /// is refused.
+    ///
+    /// Each column of a crossing is listed, as in all `Overrides`.
+    pub fn put_line_glyphs(
+        &mut self,
+        glyphs: &mut NotedPlaces<GlyphPlace, G, A>,
+        row: usize,
+        over: Vec<(Option<LinePlace>, G), A>,
+    ) -> Result<(), AllocError>
+        requires has_columns { HasColumns self.old.now.columns self.old.now.overrides.crossings }
+        ensures glyphs { OnOk result (glyphs.new.now ≡ with_glyphs row over.items glyphs.old.now) }
+        ensures before_glyphs { glyphs.new.before ≡ glyphs.old.before }
+        ensures ok { OnOk result (self.new.now.overrides ≡ record self.old.now.overrides { crossings = with_line_crossings row over.items self.old.now.overrides.crossings }) }
+        ensures has_columns { OnOk result (HasColumns self.new.now.columns self.new.now.overrides.crossings) }
+        ensures before { self.new.before ≡ self.old.before }
+    {
+        put_over(glyphs, &mut self.crossings, &mut self.columns, row, over)
+    }
 }
 
 // Sets two places to these values, if there are any, or only the first one if memory is refused.
@@ -208,26 +228,6 @@ impl<A: Allocator + Clone> Lines<char, A> {
         ensures nothing { glyphs.now ≡ [] → IsOk result }
     {
         put_all(&mut self.crossings, &mut self.columns, glyphs)
-    }
-
-    /// Puts characters at their places in a row line, here those at crossings, or some of them if
-    /// memory is refused.
-    ///
-    /// Each column of a crossing is listed, as in all `Overrides`.
-    pub fn put_line_glyphs(
-        &mut self,
-        glyphs: &mut NotedPlaces<GlyphPlace, char, A>,
-        row: usize,
-        over: &[(Option<LinePlace>, char)],
-    ) -> Result<(), AllocError>
-        requires has_columns { HasColumns self.old.now.columns self.old.now.overrides.crossings }
-        ensures glyphs { OnOk result (glyphs.new.now ≡ with_glyphs row over.now glyphs.old.now) }
-        ensures before_glyphs { glyphs.new.before ≡ glyphs.old.before }
-        ensures ok { OnOk result (self.new.now.overrides ≡ record self.old.now.overrides { crossings = with_line_crossings row over.now self.old.now.overrides.crossings }) }
-        ensures has_columns { OnOk result (HasColumns self.new.now.columns self.new.now.overrides.crossings) }
-        ensures before { self.new.before ≡ self.old.before }
-    {
-        put_over(glyphs, &mut self.crossings, &mut self.columns, row, over)
     }
 
     /// Sets the horizontals and the crossings of a row line of so many columns to the glyphs of

@@ -128,6 +128,26 @@ impl<G: Drop, A: Allocator + Clone> Overrides<G, A> {
         self.lines.settle(done.is_ok());
         done
     }
+
+    /// Puts values at their places in a row line: those at crossings here, the others among these
+    /// values of horizontals, whose changes aren't settled then.
+    ///
+    /// If memory is refused, no crossing changes.
+    pub fn set_over(
+        &mut self,
+        glyphs: &mut NotedPlaces<GlyphPlace, G, A>,
+        row: usize,
+        over: Vec<(Option<LinePlace>, G), A>,
+    ) -> Result<(), AllocError>
+        ensures glyphs { OnOk result (glyphs.new.now ≡ with_glyphs row over.items glyphs.old.now) }
+        ensures before { glyphs.new.before ≡ glyphs.old.before }
+        ensures ok { OnOk result (self.new ≡ record self.old { crossings = with_line_crossings row over.items self.old.crossings }) }
+        ensures err { OnErr result (self.new ≡ self.old) }
+    {
+        let done = self.lines.put_line_glyphs(glyphs, row, over);
+        self.lines.settle(done.is_ok());
+        done
+    }
 }
 
 impl<A: Allocator + Clone> Overrides<char, A> {
@@ -143,26 +163,6 @@ impl<A: Allocator + Clone> Overrides<char, A> {
         // Shows that they are in order.
         self.lines.crossings.places().stand_in_order();
         let done = self.lines.put_all_crossings(glyphs);
-        self.lines.settle(done.is_ok());
-        done
-    }
-
-    /// Puts characters at their places in a row line: those at crossings here, the others among these
-    /// glyphs of horizontals, whose changes aren't settled then.
-    ///
-    /// If memory is refused, no crossing changes.
-    pub fn set_over(
-        &mut self,
-        glyphs: &mut NotedPlaces<GlyphPlace, char, A>,
-        row: usize,
-        over: &[(Option<LinePlace>, char)],
-    ) -> Result<(), AllocError>
-        ensures glyphs { OnOk result (glyphs.new.now ≡ with_glyphs row over.now glyphs.old.now) }
-        ensures before { glyphs.new.before ≡ glyphs.old.before }
-        ensures ok { OnOk result (self.new ≡ record self.old { crossings = with_line_crossings row over.now self.old.crossings }) }
-        ensures err { OnErr result (self.new ≡ self.old) }
-    {
-        let done = self.lines.put_line_glyphs(glyphs, row, over);
         self.lines.settle(done.is_ok());
         done
     }
