@@ -2,3 +2,4 @@ pub mod LentTexts
 pub mod Tables
 pub mod RowsInParts
 pub mod WordsOfColumns
+pub mod PointedTexts

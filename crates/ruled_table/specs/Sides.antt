@@ -1,17 +1,21 @@
 -- At which side of its cells the texts of a column stand, and numbers whose points are below one another.
 use Rattle.std.specs.Prelude.{ℕ, ◌||◌, Bool, List, [], drop, slice_index_or, fold, string_bytes, Option, Some, None, if◌then◌else◌, ◌-◌, ◌==◌, ◌&&◌, max, true, false, ◌∷◌, ◌++◌, codes}
-use Rattle.std.specs.Prelude.{length, map, position}
+use Rattle.std.specs.Prelude.{length, map, position, ◌≡◌, ◌+◌, ◌<◌, ◌^◌}
 use Rattle.std.specs.List.{list_all, list_any, range_with_len, repeat}
-use Rattle.std.specs.Str.{bytes_eq}
+use Rattle.std.specs.Str.{bytes_eq, IsUtf8}
 use Rattle.pg_layout.specs.Records.{columns_of}
-use Rattle.pg_layout.specs.Text.{Text, greatest}
+use Rattle.pg_layout.specs.Text.{Text, greatest, lines_of}
 use Rattle.pg_layout.specs.declared.alignment.AlignmentHorizontal.{AlignmentHorizontal}
 use Rattle.pg_layout.specs.declared.alignment.AlignmentHorizontal.TheVariants.{Left, Center, Right}
 use Rattle.pg_layout.specs.declared.position.Entity.TheVariants.{Column}
+use Rattle.pg_config.specs.Cells.{Style}
 use Rattle.pg_config.specs.Config.{Config}
 use Rattle.pg_config.specs.Settings.{Settings, with_setting}
+use Rattle.pg_picture.specs.Fits.{cell_fits}
+use Rattle.pg_picture.specs.Pieces.{block_line, written}
 use Rattle.ruled_table.specs.Columns.{told_of}
 use Rattle.pg_table.specs.Numbers.{is_number_or_blank, lacking, no_extent, own_extent}
+use Rattle.pg_table.specs.OwnRows.{longest_rest, widened_right}
 use Rattle.ruled_table.specs.declared.options.Options.{Options}
 use Rattle.ruled_table.specs.declared.options.Side.{Side}
 use Rattle.ruled_table.specs.declared.options.Side.TheVariants.{To, Point}
@@ -130,3 +134,35 @@ widest_number extent = repeat (max extent.whole (1 - extent.rest)) (codes "0") +
 -- a row of them: so each column has room for its numbers, and for one character
 abbrev pub ruler_of : List Extent → ℕ → List Text
 ruler_of extents fields = map (λ field. widest_number (extent_at extents field)) (range_with_len 0 fields)
+
+-- ---- spaces behind a number, and padding
+
+-- By either, a column has the same longest rest.
+abbrev pub RestsAgree : Type 0
+RestsAgree = (rows : List (List Text)) (column : ℕ) → (extent_of rows column).rest ≡ longest_rest rows 0 column
+
+-- a text of one line at the right of its cell, as it is, before padding of spaces without a colour
+pub record IsAtRight (style : Style) (text : Text) : Type 0 where
+  pub utf8 : IsUtf8 text
+  pub line : lines_of text ≡ text ∷ []
+  pub across : style.across ≡ Right
+  pub fill : style.padding.right.fill ≡ 32
+  pub color : style.padding_color.right ≡ None
+  pub trimmed : style.formatting.horizontal_trim ≡ false
+  pub shortened : style.formatting.vertical_trim ≡ false
+
+-- so many columns more of padding
+abbrev pub widened_style : ℕ → Style → Style
+widened_style n style = record style { padding = widened_right n style.padding }
+
+-- With the spaces that it lacks it makes the same lines of a cell as with so much more padding.
+abbrev pub SpacesArePadding : Type 0
+SpacesArePadding =
+    (style : Style) (rest w h i : ℕ) (text : Text) → IsAtRight style text → style.padding.right.size + lacking rest text < 2 ^ 64
+    → written (block_line style None (pointed rest text) w h i) ≡ written (block_line (widened_style (lacking rest text) style) None text w h i)
+
+-- It has room in the same cells.
+abbrev pub SpacesTakeAsMuchRoom : Type 0
+SpacesTakeAsMuchRoom =
+    (style : Style) (rest w h : ℕ) (text : Text) → IsAtRight style text → style.padding.right.size + lacking rest text < 2 ^ 64
+    → cell_fits style (pointed rest text) w h ≡ cell_fits (widened_style (lacking rest text) style) text w h

@@ -30,6 +30,7 @@ pub use crate::colors::TextColors;
 pub use crate::columns::field_at;
 pub use crate::layout::Layout;
 pub use crate::options::{Options, Side, Sort, Vertical};
+pub use crate::points::points_look_alike;
 pub use crate::rows::limit_of;
 pub use crate::table_rows::TableRows;
 pub use crate::view::{Chosen, ViewFault, chosen_rows};

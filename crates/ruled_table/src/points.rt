@@ -5,6 +5,7 @@ ghost use Rattle.std.specs.List.{list_any, range_with_len};
 ghost use Rattle.csv.specs.Records.{fields_of};
 ghost use Rattle.ruled_table.specs.Columns.{texts_of};
 ghost use Rattle.ruled_table.specs.Sides as spec;
+ghost use Rattle.ruled_table.specs.Sides.{RestsAgree, SpacesArePadding, SpacesTakeAsMuchRoom};
 
 use crate::columns::{field_at, told_of};
 use crate::lent_rows::{LentRows, text_in};
@@ -176,3 +177,13 @@ pub(crate) fn pointed_record(
     }
     Ok(made)
 }
+
+/// Spaces behind numbers put their points below one another as the padding of
+/// [`with_points_aligned`](pg_table::Table::with_points_aligned) does: as many as the number has columns
+/// less behind its point, so its cell has the same lines, and room at the same sizes.
+#[tactic(auto, using(crate::proofs::PointedTexts::rests_agree, crate::proofs::PointedTexts::spaces_are_padding, crate::proofs::PointedTexts::spaces_take_as_much_room))]
+pub fn points_look_alike()
+    ensures rest { RestsAgree }
+    ensures lines { SpacesArePadding }
+    ensures room { SpacesTakeAsMuchRoom }
+{}
