@@ -1,6 +1,6 @@
 //! Worked scripts, each beside what `pgshow` prints for it. The functions do nothing: their
 //! contracts say that the definitions give the texts written here.
-#![tactic(auto, unfolding(crate::proofs::Computing::answer_words))]
+#![tactic(auto, unfolding(crate::proofs::ScriptTables::answer_words))]
 
 ghost use Rattle.std.specs.Prelude.{◌≡◌, ◌++◌, ◌∷◌, ℕ, List, [], Err, Ok, codes};
 ghost use Rattle.pg_picture.specs.declared.fits.Misfit.TheVariants.{Room};

@@ -1,6 +1,6 @@
 use Rattle.std.proofs.Common.{◌≡◌, Err, None, ap, map, string_bytes}
 use Rattle.pg_show.specs.Program.{answer_to}
-use Rattle.pg_show.proofs.RightAnswers.{status_of_answer-right}
+use Rattle.pg_show.proofs.ScriptTables.{status_of_answer-right}
 use Rattle.pg_show.proofs.program.run.Goals as goal
 
 pub returns-in-Ok-clause-answered : goal.returns-in-Ok-clause-answered

@@ -3,7 +3,7 @@ use Rattle.std.specs.Result.{is_err}
 use Rattle.std.proofs.lemmas.Bool.{false≢true}
 use Rattle.pg_script.specs.Script.{told_of_script}
 use Rattle.pg_show.specs.Show.{misfit_in, text_in}
-use Rattle.pg_show.proofs.RightAnswers.{Answers-unprinted, answer_of_told-printed, misfit-none, Prints-ok}
+use Rattle.pg_show.proofs.ScriptTables.{Answers-unprinted, answer_of_told-printed, misfit-none, Prints-ok}
 use Rattle.pg_show.proofs.program.text_of_table.Goals as goal
 
 pub returns-in_err-print_script : goal.returns-in_err-print_script

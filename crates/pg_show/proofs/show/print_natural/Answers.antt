@@ -5,8 +5,7 @@ use Rattle.pg_picture.specs.Table.{is_empty}
 use Rattle.pg_table.specs.Natural.{natural_table}
 use Rattle.pg_table.specs.Spanning.{table_from}
 use Rattle.pg_script.specs.Script.{told_of_script}
-use Rattle.pg_show.proofs.NaturalTables.{Prints-same, Shows-printed, Shows-refused}
-use Rattle.pg_show.proofs.ScriptTables.{natural_table-script}
+use Rattle.pg_show.proofs.ScriptTables.{Prints-same, Shows-printed, Shows-refused, natural_table-script}
 use Rattle.pg_show.proofs.show.print_natural.Goals as goal
 
 pub returns-clause-shows : goal.returns-clause-shows
