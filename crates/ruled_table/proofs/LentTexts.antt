@@ -1,10 +1,10 @@
 -- Rows whose texts are fields of records, with names, sizes and escapes, those that are shown, how many columns fit in a line, records of plain ASCII, and how many columns a text takes at most.
-use Rattle.std.proofs.Common.{◌≡◌, ◌≢◌, ◌<◌, ◌≤◌, ◌∙◌, ◌∷◌, ℕ, zero, suc, Bool, true, false, List, Option, [], map, length, slice_index_or, All, encode_utf8_all, flat_map, refl, sym, ap, arith, ap₂, Some, None, ◌==◌, ◌||◌, ◌++◌, not, chars, encode_utf8, IsUtf8, ◌+◌, ◌-◌, ◌/◌, max, take, drop, get_or, append_assoc, nat_lt, slice_index, sum_by, zero-add, inl, inr, cond, length-append}
+use Rattle.std.proofs.Common.{◌≡◌, ◌≢◌, ◌<◌, ◌≤◌, ◌∙◌, ◌∷◌, ℕ, zero, suc, Bool, true, false, List, Option, [], map, length, slice_index_or, All, encode_utf8_all, flat_map, refl, sym, ap, arith, ap₂, Some, None, ◌==◌, ◌||◌, ◌++◌, not, chars, encode_utf8, IsUtf8, ◌+◌, ◌-◌, ◌/◌, max, take, drop, get_or, append_assoc, nat_lt, slice_index, sum_by, zero-add, inl, inr, cond, length-append, nat_eq, ◌&&◌}
 use Rattle.std.proofs.lemmas.List.{length-map, drop-map, drop_more, map-append, take-map, take-take, take_more}
 use Rattle.std.proofs.lemmas.List.Elements.{All-map}
 use Rattle.std.proofs.Math.Utf8.{encode}
 use Rattle.std.proofs.lemmas.Str.{chars-encodes, chars-nil, encodes-chars, chars-IsAscii, IsUtf8-from_ascii, length-encode, len_utf8_bounds}
-use Rattle.std.specs.Prelude.{if◌then◌else◌, option_map, slice_get, nat_le}
+use Rattle.std.specs.Prelude.{if◌then◌else◌, is_some, option_map, slice_get, nat_le}
 use Rattle.csv.specs.Records.{Row, fields_of, field_at, cut_from}
 use Rattle.pg_layout.specs.Records.{columns_of}
 use Rattle.pg_layout.specs.Colors.{Color}
@@ -19,7 +19,7 @@ use Rattle.ruled_table.specs.Shown.{color_beside, color_of, tint_of, escape_of, 
 use Rattle.ruled_table.specs.declared.options.Options.{Options}
 use Rattle.ruled_table.specs.declared.blocks.Blocks.{Blocks}
 use Rattle.std.proofs.lemmas.Option.{same_Some, none-some}
-use Rattle.std.specs.List.{list_all, range_with_len, fold, zip, join_with_byte}
+use Rattle.std.specs.List.{list_all, range_with_len, fold, zip, join_with_byte, position, position_or_len}
 use Rattle.std.proofs.lemmas.Bool.{and_parts, true≢false, and_from, cases_Bool, cases_lt}
 use Rattle.std.proofs.lemmas.List.FromFn.{map-range_with_len_more, get_or-range_with_len, length-range_with_len}
 use Rattle.ruled_table.specs.Arranged.{both_ends, gap_of, last_of}
@@ -43,7 +43,9 @@ use Rattle.pg_fit.specs.declared.wrapping.Breaking.{Breaking}
 use Rattle.pg_fit.specs.declared.wrapping.Breaking.TheVariants.{Anywhere, BetweenWords}
 use Rattle.pg_fit.specs.Wrapping.{Piece, fits as fits_in, takes, filled, characters, words, indented, parted, pieces, wrapped_line, wrapped, before_words}
 use Rattle.pg_fit.proofs.LawsOfTexts.{EachLine, EachTexts, lines_of-lines, lines_stand, words-texts, indented-texts}
-use Rattle.std.specs.Char.{len_utf8}
+use Rattle.std.specs.Char.{len_utf8, is_ascii_alphabetic}
+use Rattle.std.specs.Io.BufRead.{ends_with_byte, strip_last}
+use Rattle.pg_table.specs.Numbers.{are_digits, is_decimal, is_decimal_by, is_digit, is_figure, is_number, is_scaled, is_scaled_by, is_whole, unsigned}
 use Rattle.unicode_width.specs.Kind.{kind}
 use Rattle.unicode_width.specs.Width.{Reading, alone, before_alef, if_kept, in_context, joined_or, joins, of_kind, past_emoji, past_selectors, plain, read_before, step, str_width}
 use Rattle.unicode_width.specs.declared.kind.Kind.{Kind}
@@ -429,6 +431,11 @@ lent-within options overflow room text same fits =
     let narrow : nat_le (text_width_of text) room ≡ true = grind (arith, nat_tests, fits) in
     sym (ap (text_within overflow room) same ∙ rw narrow refl)
 
+-- a field of a record that is shown unchanged
+pub field-stands : (options : Options) (texts : List Text) (place : Option ℕ) → is_some place ≡ true → map (shown_text options) texts ≡ texts → shown_text options (drawn_at texts place) ≡ drawn_at texts place
+field-stands options texts (Some place) is stand = sym (drawn-shown options texts (Some place)) ∙ ap (λ (ts : List Text). slice_index_or ts place []) stand
+field-stands options texts None is stand = cc
+
 -- so is a plain field
 pub plain-within : (options : Options) (overflow : Overflow) (room : ℕ) (texts : List Text) (place : ℕ) → map (shown_text options) texts ≡ texts → list_all (list_all is_plain_byte) texts ≡ true
     → length (slice_index_or texts place []) ≤ room → slice_index_or texts place [] ≡ text_within overflow room (shown_text options (slice_index_or texts place []))
@@ -715,6 +722,62 @@ pub columns_by_bytes : (text : Text) → IsUtf8 text → text_width_of text ≤ 
 unfolding text_width_of lines_of
 columns_by_bytes text utf8 =
     omega (arith, lines-columns (lines_of text) (lines_of-lines text utf8), ap (λ (t : Text). length t) (join_with_byte-slice_split 10 text))
+
+-- ---- a text that begins with a letter is no number
+
+module _ (b : ℕ) (letter : is_ascii_alphabetic b ≡ true) where
+  no-digit : is_digit b ≡ false
+  no-digit = grind (arith, nat_tests, letter)
+
+  no-sign : (nat_eq b 43 ≡ false) × (nat_eq b 45 ≡ false) × (nat_eq b 226 ≡ false) × (nat_eq b 37 ≡ false)
+  no-sign = (grind (arith, nat_tests, letter), grind (arith, nat_tests, letter), grind (arith, nat_tests, letter), grind (arith, nat_tests, letter))
+
+  no-whole : (bs : Text) → is_whole (b ∷ bs) ≡ false
+  no-whole bs = ap (λ v. v && list_all is_figure bs) no-digit
+
+  no-decimal-at : (found : Option ℕ) (bs : Text) → (found ≡ Some 0 → b ≡ 46) → is_decimal_by found (b ∷ bs) ≡ false
+  no-decimal-at None bs first = no-whole bs
+  no-decimal-at (Some zero) bs first = absurd (let point : b ≡ 46 = first refl in grind (arith, nat_tests, letter))
+  no-decimal-at (Some (suc m)) bs first =
+      let other : (suc m == 0) ≡ false = grind (arith, nat_tests) in
+      ap (λ v. (v || is_whole (take (suc m) (b ∷ bs))) && are_digits (drop (suc m + 1) (b ∷ bs))) other
+      ∙ ap (λ v. v && are_digits (drop (suc m + 1) (b ∷ bs))) (no-whole (take m bs))
+
+  first-found : (p : ℕ → Bool) (bs : Text) → position p (b ∷ bs) ≡ Some 0 → p b ≡ true
+  first-found p bs found = elim (p b) as (λ v. cond (nat_lt (cond (not v) (1 + position_or_len p bs) 0) (length (b ∷ bs))) (Some (cond (not v) (1 + position_or_len p bs) 0)) None ≡ Some 0 → v ≡ true) [
+    | true ↦ λ is. refl
+    | false ↦ λ is. grind (arith, nat_tests, is)
+  ] found
+
+  no-decimal : (bs : Text) → is_decimal (b ∷ bs) ≡ false
+  no-decimal bs = no-decimal-at (position (λ byte. byte == 46) (b ∷ bs)) bs (λ found. let is = first-found (λ byte. byte == 46) bs found in grind (arith, nat_tests, is))
+
+  no-scaled-at : (found : Option ℕ) (bs : Text) → is_scaled_by found (b ∷ bs) ≡ false
+  no-scaled-at None bs = no-decimal bs
+  no-scaled-at (Some zero) bs = refl
+  no-scaled-at (Some (suc m)) bs = ap (λ v. v && are_digits (unsigned (drop (suc m + 1) (b ∷ bs)))) (no-decimal (take m bs))
+
+  stripped : (bs : Text) → (ys : Text) × (strip_last 37 (b ∷ bs) ≡ b ∷ ys)
+  stripped [] = ([], rw no-sign.3 refl)
+  stripped (c ∷ cs) = elim (ends_with_byte 37 (b ∷ c ∷ cs)) as (λ v. (ys : Text) × (cond v (take (length (b ∷ c ∷ cs) - 1) (b ∷ c ∷ cs)) (b ∷ c ∷ cs) ≡ b ∷ ys)) [
+    | true ↦ (take (length cs) (c ∷ cs), let less : length (b ∷ c ∷ cs) - 1 ≡ suc (length cs) = omega arith in ap (λ k. take k (b ∷ c ∷ cs)) less)
+    | false ↦ (c ∷ cs, refl)
+  ]
+
+  no-front : (bs : Text) → unsigned (b ∷ bs) ≡ b ∷ bs
+  no-front bs = rw (no-sign.0, no-sign.1, no-sign.2) refl
+
+  no-number : (bs : Text) → is_number (b ∷ bs) ≡ false
+  unfolding is_number
+  no-number bs =
+      let rest = stripped bs in
+      ap (λ (t : Text). is_scaled (strip_last 37 t)) (no-front bs)
+      ∙ ap is_scaled rest.1
+      ∙ no-scaled-at (position (λ byte. (byte == 101) || (byte == 69)) (b ∷ rest.0)) rest.0
+
+pub no_number_by_letter : (text : Text) → 0 < length text → is_ascii_alphabetic (slice_index text 0) ≡ true → false ≡ is_number text
+no_number_by_letter [] some letter = absurd (omega (arith, some))
+no_number_by_letter (b ∷ bs) some letter = sym (no-number b letter bs)
 
 -- the field at a place, and none
 pub ruleset fields_found = (field_missing, field_there)

@@ -1,10 +1,10 @@
 -- Tables of rows: their looks and sizes, before the first row and after the last, and natural widths of texts with a space at each side.
 use Rattle.std.proofs.Common.{◌≡◌, ◌∷◌, ◌++◌, ℕ, List, [], length, true, false, refl, None, Some, Option, Result, Ok, Err, sym, ap, ◌∙◌, ◌-◌, zero, suc, max, String, ◌≢◌, ◌⊎◌, slice_index_or, IfOk, inl, inr, subst, ◌<◌, arith, add-one, take, rules, ◌+◌, ◌*◌, Bool, string_bytes, append-nil, append_assoc, ◌≤◌, ◌^◌, ◌==◌, ◌||◌, count_by, drop, map, slice_index, nat_lt, ap₂, min, not, sum_by}
-use Rattle.std.specs.Prelude.{IsOk, OnErr, is_none, if◌then◌else◌, ⊤, ◌↔◌}
+use Rattle.std.specs.Prelude.{nat_le, IsUtf8, IsOk, OnErr, is_none, unwrap_or, if◌then◌else◌, ⊤, ◌↔◌}
 use Rattle.pg_layout.specs.Text.{Text, greatest, text_width_of}
 use Rattle.pg_layout.specs.Records.{columns_of, text_at}
 use Rattle.pg_layout.specs.declared.borders.HorizontalLine.{HorizontalLine}
-use Rattle.pg_config.specs.Config.{Config, default_config, get_formatting, get_padding}
+use Rattle.pg_config.specs.Config.{Config, default_config, get_alignment_horizontal, get_formatting, get_padding}
 use Rattle.pg_picture.specs.Appending.{GainedBeginning}
 use Rattle.pg_picture.specs.Picture.{picture}
 use Rattle.pg_picture.specs.Table.{Known, Table, full_width, total_width}
@@ -18,7 +18,7 @@ use Rattle.ruled_table.specs.declared.view.ViewFault.{ViewFault}
 use Rattle.std.proofs.Math.Seq.{drop-nil}
 use Rattle.ruled_table.specs.Arranged.{arranged, chosen_rows, ends_of, last_of, tails}
 use Rattle.ruled_table.specs.Columns.{column_fault, drawn_at, fields_at, texts_at, texts_of}
-use Rattle.ruled_table.specs.Shown.{heads, limit_of, up_to, line_in, sided_config}
+use Rattle.ruled_table.specs.Shown.{heads, limit_of, look_config, up_to, line_in, sided_config}
 use Rattle.ruled_table.specs.declared.options.Options.{Options}
 use Rattle.std.proofs.lemmas.Bool.{true≢false, cases_Bool, and_parts, and_from, cases_lt}
 use Rattle.pg_layout.specs.Colors.{Color}
@@ -29,7 +29,7 @@ use Rattle.pg_table.specs.Printing.{Prints, sizes_fault}
 use Rattle.pg_picture.proofs.Appending.{Appends-beginning}
 use Rattle.pg_table.specs.Spanning.{table_from, keeps_spans, spanned_widths, widths_from}
 use Rattle.pg_table.specs.declared.fault.TableFault.{TableFault}
-use Rattle.ruled_table.specs.Widths.{TellsTable, first_config, HasSpaces, natural_fault, natural_widths, AreSpaced, HasRoom, IsLowered, lowered, widest_wrapped}
+use Rattle.ruled_table.specs.Widths.{TellsTable, first_config, HasSpaces, natural_fault, natural_widths, AreSpaced, HasRoom, IsLowered, lowered, narrowed, widest_wrapped}
 use Rattle.std.proofs.lemmas.Option.{none-some}
 use Rattle.pg_config.specs.Spans.{has_row_spans, Span}
 use Rattle.pg_picture.specs.declared.fits.Misfit.{Misfit}
@@ -41,7 +41,7 @@ use Rattle.pg_stream.specs.SizedStreams.{sized_misfit}
 use Rattle.pg_stream.specs.declared.fault.StreamFault.{StreamFault}
 use Rattle.ruled_table.specs.Layouts.{start_fault, start_of, Plan, with_colors}
 use Rattle.ruled_table.specs.RowLines.{HasPrinted, after_rows}
-use Rattle.std.specs.List.{range_with_len, All}
+use Rattle.std.specs.List.{list_all, range_with_len, All}
 use Rattle.std.proofs.lemmas.Bool.Decides.{nat_tests}
 use Rattle.std.proofs.lemmas.List.{get_or-map, length-map, length-take, length-drop}
 use Rattle.std.proofs.lemmas.List.FromFn.{fill_by_all, get_or-map-range_with_len, length-map-range_with_len}
@@ -50,7 +50,12 @@ use Rattle.csv.specs.Records.{Row, cut_from, fields_of}
 use Rattle.pg_layout.specs.Position.{at}
 use Rattle.pg_layout.proofs.TextLines.{is_feed, length-lines_of}
 use Rattle.pg_config.specs.Overrides.{Overrides}
-use Rattle.pg_config.specs.Settings.{setting_of, with_setting}
+use Rattle.pg_config.specs.Settings.{Settings, setting_of, with_setting}
+use Rattle.pg_config.proofs.SettingsLaw.{setting_of-with_setting}
+use Rattle.pg_layout.specs.declared.alignment.AlignmentHorizontal.{AlignmentHorizontal}
+use Rattle.pg_layout.specs.declared.alignment.AlignmentHorizontal.TheVariants.{Left, Center, Right}
+use Rattle.pg_layout.specs.declared.position.Entity.TheVariants.{Column}
+use Rattle.ruled_table.specs.Sides.{AreSided, side_of, with_side, with_sides}
 use Rattle.pg_picture.specs.Fits.{spans_fit}
 use Rattle.pg_picture.specs.Pieces.{shown, widest}
 use Rattle.pg_picture.proofs.OwnersOfPlaces.{InOrder}
@@ -64,8 +69,11 @@ use Rattle.pg_layout.specs.declared.alignment.Formatting.{Formatting}
 use Rattle.pg_fit.specs.declared.narrowing.ColumnRange.{ColumnRange}
 use Rattle.pg_fit.specs.declared.wrapping.Breaking.{Breaking}
 use Rattle.pg_fit.specs.Narrowing.{natural_total}
-use Rattle.pg_fit.specs.Wrapping.{wrapped}
-use Rattle.pg_fit.proofs.LawsOfTexts.{fitting_texts_stay}
+use Rattle.pg_fit.specs.Wrapping.{least_width, wrapped}
+use Rattle.pg_fit.specs.Controls.{is_printable}
+use Rattle.pg_fit.specs.declared.wrapping.Breaking.TheVariants.{Anywhere, BetweenWords}
+use Rattle.pg_fit.proofs.LawsOfControls.{least-anywhere, least-one_line, least-spaces, least-word}
+use Rattle.pg_fit.proofs.LawsOfTexts.{fitting_texts_stay, wrapped_texts_fit}
 use Rattle.pg_fit.proofs.NarrowedWidths.{stay_natural}
 use Rattle.pg_table.specs.Fitted.{column_range, column_ranges, column_texts, column_widths, fit_fault, fitted_at, fitted_table, fitted_text, fitted_texts, least_column_width}
 use Rattle.pg_table.specs.Overflowing.{beside_columns, least_text_width, limit_of as limit_at}
@@ -77,7 +85,7 @@ use Rattle.pg_table.proofs.ListedSizes.{all_fit-each, size-at}
 use Rattle.pg_table.proofs.ToldTables.{plain-widths as told-widths}
 use Rattle.ruled_table.specs.declared.lent_rows.LentRows.{LentRows}
 use Rattle.pg_table.proofs.Widenings.{sum-same}
-use Rattle.ruled_table.proofs.LentTexts.{length-wrapped}
+use Rattle.ruled_table.proofs.LentTexts.{length-wrapped, sides_more}
 use Rattle.pg_table.specs.declared.fault.TableFault.TheVariants as table
 use Rattle.pg_stream.specs.declared.fault.StreamFault.TheVariants as stream
 
@@ -342,6 +350,50 @@ first-spaces options rows =
       down = λ p. line-keeps (λ (c : Config). (get_formatting c p).vertical_trim) (λ c o. refl) (line_in options) (length rows) (columns_of rows) config;
       spans = plain-config options rows;
     }
+
+-- ---- its columns are at their sides
+
+module _ (n k : ℕ) (settings : Settings AlignmentHorizontal) where
+  -- the side of another column
+  side-beside : (side : AlignmentHorizontal) → (k == n) ≡ false → setting_of (with_side n side settings) (at 0 k) ≡ setting_of settings (at 0 k)
+  side-beside Left other = refl
+  side-beside Center other = setting_of-with_setting (Column n) Center settings (at 0 k) ∙ rw other refl
+  side-beside Right other = setting_of-with_setting (Column n) Right settings (at 0 k) ∙ rw other refl
+
+  side-there : (side : AlignmentHorizontal) → (k == n) ≡ true → setting_of settings (at 0 k) ≡ None → unwrap_or (setting_of (with_side n side settings) (at 0 k)) Left ≡ side
+  side-there Left same none = rw none refl
+  side-there Center same none = rw (setting_of-with_setting (Column n) Center settings (at 0 k), same) refl
+  side-there Right same none = rw (setting_of-with_setting (Column n) Right settings (at 0 k), same) refl
+
+module _ (side : ℕ → AlignmentHorizontal) (k : ℕ) (settings : Settings AlignmentHorizontal) (none : setting_of settings (at 0 k) ≡ None) where
+  one-more : (n : ℕ) → with_sides side (suc n) settings ≡ with_side n (side n) (with_sides side n settings)
+  one-more n = ap (λ (m : ℕ). with_sides side m settings) (sym (add-one n)) ∙ sides_more side n settings
+
+  sides-below : (n : ℕ) → n ≤ k → setting_of (with_sides side n settings) (at 0 k) ≡ None
+  sides-below zero few = none
+  sides-below (suc n) few =
+      let other : (k == n) ≡ false = grind (arith, nat_tests, few) in
+      ap (λ (s : Settings AlignmentHorizontal). setting_of s (at 0 k)) (one-more n) ∙ side-beside n k (with_sides side n settings) (side n) other ∙ sides-below n (omega (arith, few))
+
+  sides-there : (n : ℕ) → k < n → unwrap_or (setting_of (with_sides side n settings) (at 0 k)) Left ≡ side k
+  sides-there zero less = absurd (omega (arith, less))
+  sides-there (suc n) less =
+      let value : Settings AlignmentHorizontal → AlignmentHorizontal = λ s. unwrap_or (setting_of s (at 0 k)) Left in
+      ap value (one-more n)
+      ∙ elim (cases_Bool (k == n)) [
+        | inl same ↦
+            let is : k ≡ n = grind (arith, nat_tests, same) in
+            side-there n k (with_sides side n settings) (side n) same (sides-below n (omega (arith, is))) ∙ ap side (sym is)
+        | inr other ↦
+            let below : k < n = grind (arith, nat_tests, other, less) in
+            ap (λ (o : Option AlignmentHorizontal). unwrap_or o Left) (side-beside n k (with_sides side n settings) (side n) other) ∙ sides-there n below
+      ]
+
+pub first-sides : (options : Options) (rows : List (List Text)) → AreSided options (first_config options rows) rows
+unfolding get_alignment_horizontal setting_of default_config
+first-sides options rows = λ column within.
+    line-keeps (λ (c : Config). get_alignment_horizontal c (at 0 column)) (λ c o. refl) (line_in options) (length rows) (columns_of rows) (sided_config options rows)
+    ∙ sides-there (side_of options rows) column (look_config options.look).alignment_horizontal refl (columns_of rows) within
 
 -- ---- the width of a column
 
@@ -677,3 +729,19 @@ found-widths breaking total limits config spaces records old new spaced few fits
       widths-wrapped breaking total limits config spaces texts rooms fit some less counted new same_length lower' high,
       fault-wrapped breaking total limits config spaces texts rooms fit some less counted new same_length lower' high,
     )
+
+-- ---- wrapped lines of printable ASCII
+
+-- each of its characters takes one column
+least-printable : (breaking : Breaking) (text : Text) → list_all is_printable text ≡ true → least_width breaking text ≤ 1
+least-printable Anywhere text h = omega (arith, least-one_line Anywhere text h, least-anywhere text h)
+least-printable BetweenWords text h = elim (cases_Bool (list_all (λ b. b == 32) text)) [
+  | inl none ↦ omega (arith, least-one_line BetweenWords text h, least-spaces text h none)
+  | inr some ↦ omega (arith, least-one_line BetweenWords text h, least-word text h some)
+]
+
+pub broken_printable : (breaking : Breaking) (width : ℕ) (text : Text) → IsUtf8 text → 0 < width → list_all is_printable text ≡ true → wrapped breaking width text ≡ narrowed width (wrapped breaking width text)
+broken_printable breaking width text utf8 some printable =
+    let fits : text_width_of (wrapped breaking width text) ≤ width = wrapped_texts_fit breaking width text utf8 (omega (arith, some, least-printable breaking text printable)) in
+    let narrow : nat_le (text_width_of (wrapped breaking width text)) width ≡ true = grind (arith, nat_tests, fits) in
+    rw narrow refl

@@ -1,8 +1,10 @@
 -- The lines of a table's rows, which are appended one row after another.
 use Rattle.std.specs.Prelude.{◌≡◌, ℕ, ⊤, ◌==◌, nat_lt, Bool, false, List, [], ◌∷◌, ◌++◌, slice_index_or, Result, Ok, Err, if◌then◌else◌, true, None, ◌<◌, length, All}
+use Rattle.arrayvec.specs.ArrayString.{ArrayString}
 use Rattle.pg_layout.specs.Text.{Text}
 use Rattle.pg_layout.specs.declared.dimension.ConstantDimension.{ConstantDimension}
-use Rattle.pg_fit.specs.Rows.{row_height}
+use Rattle.pg_fit.specs.Rows.{fitted_text, row_height}
+use Rattle.pg_fit.specs.declared.row.Fitted.{Fitted}
 use Rattle.pg_stream.specs.Conditions.{RowFits}
 use Rattle.pg_stream.specs.LiveStreams.{Live, Living, living}
 use Rattle.pg_stream.specs.Printing.{Printing, after_row, row_text}
@@ -89,6 +91,10 @@ pub record GrowsTo (begun whole old new : Text) : Type 0 where
 abbrev pub TellsRoom : {X : Type 0} → Type 0 → Result X ViewFault → Type 0
 TellsRoom NoRoom (Ok x) = ⊤
 TellsRoom NoRoom (Err fault) = is_memory fault ≡ false → (fault ≡ Totals) × NoRoom
+
+-- a text that a row of several lines holds
+abbrev pub held_text : {A : Type 0} → Fitted ArrayString A → Text
+held_text cell = fitted_text (λ text. text.bytes) cell
 
 -- what a stream of rows stands for, by the heights of all of them
 abbrev pub state_of : {A : Type 0} → (ℕ → ℕ) → Live (ConstantDimension A) TextColors → Living

@@ -5,11 +5,12 @@ use Rattle.std.specs.List.{list_all, list_any, range_with_len, repeat}
 use Rattle.std.specs.Str.{bytes_eq, IsUtf8}
 use Rattle.pg_layout.specs.Records.{columns_of}
 use Rattle.pg_layout.specs.Text.{Text, greatest, lines_of}
+use Rattle.pg_layout.specs.Position.{at}
 use Rattle.pg_layout.specs.declared.alignment.AlignmentHorizontal.{AlignmentHorizontal}
 use Rattle.pg_layout.specs.declared.alignment.AlignmentHorizontal.TheVariants.{Left, Center, Right}
 use Rattle.pg_layout.specs.declared.position.Entity.TheVariants.{Column}
 use Rattle.pg_config.specs.Cells.{Style}
-use Rattle.pg_config.specs.Config.{Config}
+use Rattle.pg_config.specs.Config.{Config, get_alignment_horizontal}
 use Rattle.pg_config.specs.Settings.{Settings, with_setting}
 use Rattle.pg_picture.specs.Fits.{cell_fits}
 use Rattle.pg_picture.specs.Pieces.{block_line, written}
@@ -69,6 +70,10 @@ with_sides side columns settings = fold (λ settings column. with_side column (s
 -- the columns of these rows at their sides
 abbrev pub sided : Options → List (List Text) → Config → Config
 sided options rows config = record config { alignment_horizontal = with_sides (side_of options rows) (columns_of rows) config.alignment_horizontal }
+
+-- each column of these rows is at its side
+abbrev pub AreSided : Options → Config → List (List Text) → Type 0
+AreSided options config rows = (column : ℕ) → column < columns_of rows → get_alignment_horizontal config (at 0 column) ≡ side_of options rows column
 
 -- ---- numbers whose points are below one another
 

@@ -7,19 +7,22 @@ ghost use Rattle.pg_layout.specs.Records.{columns_of};
 ghost use Rattle.pg_layout.specs.Text.{text_width_of};
 ghost use Rattle.ruled_table.specs.Columns.{fields_at, texts_of};
 ghost use Rattle.ruled_table.specs.Bounds as spec;
+ghost use Rattle.ruled_table.specs.Sides.{AreSided};
 
 use crate::bounds::limit_of;
 use crate::columns::{drawn_at, told_of};
 use crate::lent_rows::{LentRows, text_in};
 use crate::options::Options;
-use crate::sides::{is_numeric, lent_body};
+use crate::sides::{is_numeric_by_side, lent_body};
 use pg_config::SpannedConfig;
 use pg_fit::{ColumnRange, letters_width, narrow};
 use pg_layout::{Records, get_text_width};
 use ruled_row::TextRow;
 use std::alloc::{AllocError, Global};
 
-/// How many terminal columns a text takes. Most texts have letters alone, whose width is found by one walk.
+/// How many terminal columns a text takes. Most texts have letters alone, whose width is found by one walk. Out of line,
+/// since most texts of a column aren't measured.
+#[inline(never)]
 #[tactic(auto, using(crate::proofs::LentTexts::letters_found))]
 pub(crate) fn text_width(text: &str) -> usize
     ensures { result ≡ text_width_of text.now }
@@ -33,6 +36,7 @@ pub(crate) fn text_width(text: &str) -> usize
 /// The greater of a width and that of a text, which isn't measured if it has no more bytes: no text takes more terminal
 /// columns than bytes.
 #[inline(always)]
+#[tactic(auto, using(crate::proofs::LentTexts::columns_by_bytes))]
 pub(crate) fn raised_to(width: usize, text: &str) -> usize
     ensures { result ≡ max width (text_width_of text.now) }
 {
@@ -93,15 +97,17 @@ pub(crate) fn widest_texts(alloc: Global, rows: LentRows<'_>) -> Result<Vec<usiz
 // How narrow a column may get before columns of numbers are cut, and how wide it is with enough room.
 fn range_of(
     options: &Options,
+    config: &SpannedConfig,
     fields: LentRows<'_>,
     rows: LentRows<'_>,
     column: usize,
 ) -> ColumnRange
+    requires { AreSided options.now config.now (texts_of fields) }
     ensures { result ≡ spec.range_of options.now (texts_of fields.entry) (texts_of rows.entry) column }
 {
     let limit = limit_of(told_of(&options.bounds.limits, column));
     let natural = widest_text(rows, column).saturating_add(2).min(limit);
-    if !is_numeric(options, lent_body(options, fields), column) {
+    if !is_numeric_by_side(options, config, fields, column) {
         return ColumnRange {
             least: natural.min(4),
             natural,
@@ -122,12 +128,13 @@ pub(crate) fn kept_limits(
     fields: LentRows<'_>,
     rows: LentRows<'_>,
 ) -> Result<Vec<usize>, AllocError>
+    requires { AreSided options.now config.now (texts_of fields) }
     ensures { IfOk result (λ limits. limits.items ≡ spec.kept_limits options.now (texts_of fields.entry) (texts_of rows.entry) config.now) }
 {
     let columns = rows.count_columns();
     let mut ranges = Vec::with_capacity(alloc, columns)?;
     for column in 0..columns {
-        ranges.push(range_of(options, fields, rows, column))?;
+        ranges.push(range_of(options, config, fields, rows, column))?;
     }
     let room = options
         .bounds

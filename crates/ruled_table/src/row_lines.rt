@@ -8,7 +8,7 @@ ghost use Rattle.pg_stream.specs.Conditions.{RowFits};
 ghost use Rattle.pg_stream.specs.LiveStreams.{MayEnd};
 ghost use Rattle.pg_stream.specs.Printing.{after_row, finish_text, row_text};
 ghost use Rattle.pg_stream.specs.SizedStreams.{CountsLines, IsNextHeight};
-ghost use Rattle.ruled_table.specs.RowLines.{AreEven, HasDrawn, GrowsTo, HasNoRoomBelow, TellsRoom, begun_of, but_feed, ended, ended_by, note_below, state_of};
+ghost use Rattle.ruled_table.specs.RowLines.{AreEven, HasDrawn, held_text, GrowsTo, HasNoRoomBelow, TellsRoom, begun_of, but_feed, ended, ended_by, note_below, state_of};
 ghost use Rattle.ruled_table.specs.Tables.{Tells};
 ghost use Rattle.ruled_table.specs.Layouts.{start_fault, whole_of, Plan, plan_in, with_colors};
 ghost use Rattle.ruled_table.specs.Shown.{color_in};
@@ -18,15 +18,19 @@ ghost use Rattle.ruled_table.specs.declared.view.ViewFault.TheVariants.{Memory};
 use crate::colors::TextColors;
 use crate::layout::Layout;
 use crate::view::ViewFault;
-use pg_fit::row_height;
+use arrayvec::ArrayString;
+use pg_fit::{Fitted, row_height};
 use pg_layout::ConstantDimension;
 use pg_stream::SizedStream;
 use std::alloc::{AllocError, Global};
 use std::borrow::CowStr;
 use std::convert::AsStr;
 
+/// A text of a row of several lines: a short one lies in its cell, and takes no memory of its own.
+type HeldText = Fitted<ArrayString<SHORT>>;
+
 /// The printer of rows whose widths are known.
-pub(crate) type Sheet<'a> = SizedStream<'a, String, ConstantDimension, TextColors<'a>>;
+pub(crate) type Sheet<'a> = SizedStream<'a, HeldText, ConstantDimension, TextColors<'a>>;
 
 /// The rows of a table, whose lines are appended to a buffer, one row after another, and then its end.
 ///
@@ -43,14 +47,31 @@ pub(crate) struct RowLines<'a> {
     is_begun: bool,
 }
 
+// How many bytes a short text has at most.
+const SHORT: usize = 24;
+
+// A cell as a text of its own.
+fn held(alloc: Global, cell: CowStr<'_>) -> Result<HeldText, AllocError>
+    ensures { IfOk result (λ text. held_text text ≡ cow_str_bytes cell.entry) }
+{
+    match cell {
+        CowStr::Borrowed(text) if text.len() <= SHORT => {
+            let mut short = ArrayString::new();
+            short.push_str(text);
+            Ok(Fitted::Kept(short))
+        }
+        cell => Ok(Fitted::Made(cell.into_owned(alloc)?)),
+    }
+}
+
 // Cells as texts of their own: a printer that holds cells takes them of one type as long as it
 // lives, and no row lives as long.
-fn owned(alloc: Global, cells: Vec<CowStr<'_>>) -> Result<Vec<String>, AllocError>
-    ensures { IfOk result (λ texts. map string_bytes texts.items ≡ map cow_str_bytes cells.entry.items) }
+fn owned(alloc: Global, cells: Vec<CowStr<'_>>) -> Result<Vec<HeldText>, AllocError>
+    ensures { IfOk result (λ texts. map held_text texts.items ≡ map cow_str_bytes cells.entry.items) }
 {
     let mut texts = Vec::with_capacity(alloc, cells.len())?;
     for cell in cells {
-        let text = cell.into_owned(alloc)?;
+        let text = held(alloc, cell)?;
         texts.push(text)?;
     }
     Ok(texts)
@@ -78,15 +99,15 @@ fn print_lent<X: AsStr>(
 fn print_owned(
     sheet: &mut Sheet<'_>,
     height: usize,
-    cells: Vec<String>,
+    cells: Vec<HeldText>,
     lines: &mut String,
 ) -> Result<(), ViewFault>
     ensures lines { (heights : ℕ → ℕ) → IsNextHeight (state_of heights sheet.old).printed height
-        → OnOk result (string_bytes lines.new ≡ string_bytes lines.old ++ row_text (state_of heights sheet.old).printed (map string_bytes cells.items) false) }
+        → OnOk result (string_bytes lines.new ≡ string_bytes lines.old ++ row_text (state_of heights sheet.old).printed (map held_text cells.items) false) }
     ensures after { (heights : ℕ → ℕ) → IsNextHeight (state_of heights sheet.old).printed height
-        → OnOk result (state_of heights sheet.new ≡ record { printed = after_row (state_of heights sheet.old).printed (map string_bytes cells.items) false; is_lost = false }) }
+        → OnOk result (state_of heights sheet.new ≡ record { printed = after_row (state_of heights sheet.old).printed (map held_text cells.items) false; is_lost = false }) }
     ensures room { (heights : ℕ → ℕ) → IsNextHeight (state_of heights sheet.old).printed height → (state_of heights sheet.old).is_lost ≡ false
-        → TellsRoom (¬ (RowFits (state_of heights sheet.old).printed (map string_bytes cells.items) false)) result }
+        → TellsRoom (¬ (RowFits (state_of heights sheet.old).printed (map held_text cells.items) false)) result }
 {
     sheet.push(height, cells, lines)?;
     Ok(())
@@ -143,6 +164,7 @@ fn but_feed(is_begun: bool, lines: &str) -> &str
 
 // Appends lines with a line feed after them, in place of the one before them, except for the first
 // ones.
+#[inline(always)]
 fn append_lines(is_begun: bool, lines: &mut String, buf: &mut String) -> Result<(), AllocError>
     ensures appended { OnOk result (string_bytes buf.new ≡ string_bytes buf.old ++ ended_by is_begun (string_bytes lines.old)) }
     ensures failed { OnErr result (string_bytes buf.new ≡ string_bytes buf.old) }

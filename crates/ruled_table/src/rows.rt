@@ -86,7 +86,8 @@ pub(crate) fn is_plain_record(options: &Options, fields: &TextRow) -> bool
     is_printable(fields.text().as_bytes())
 }
 
-// Whether each field of a record is shown unchanged, one after another.
+// Whether each field of a record is shown unchanged, one after another. Out of line, since most records are plain.
+#[inline(never)]
 fn each_stands(options: &Options, fields: &TextRow) -> bool
     ensures { result ≡ true → map (shown_text options.now) (fields_of fields.now) ≡ fields_of fields.now }
 {

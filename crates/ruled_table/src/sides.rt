@@ -11,7 +11,7 @@ use crate::columns::told_of;
 use crate::lent_rows::{LentRows, text_in};
 use crate::options::{Options, Side};
 use pg_config::SpannedConfig;
-use pg_layout::{AlignmentHorizontal, Entity, Records};
+use pg_layout::{AlignmentHorizontal, Entity, Position, Records};
 use pg_table::numbers::is_number_or_blank;
 use ruled_row::TextRow;
 use std::alloc::AllocError;
@@ -79,6 +79,26 @@ pub(crate) fn lent_body<'a>(options: &Options, rows: LentRows<'a>) -> LentRows<'
     LentRows {
         records: body_of(options.has_header, rows.records),
         places: rows.places,
+    }
+}
+
+/// Whether each text of a column below a header is a number, or counts as blank. The side of the column tells that, unless
+/// it is set.
+pub(crate) fn is_numeric_by_side(
+    options: &Options,
+    config: &SpannedConfig,
+    rows: LentRows<'_>,
+    column: usize,
+) -> bool
+    requires { spec.AreSided options.now config.now (texts_of rows) }
+    ensures { result ≡ spec.is_numeric options.now (spec.body_of options.now.has_header (texts_of rows.entry)) column }
+{
+    match told_of(&options.sides, column) {
+        None | Some(Side::Point) if column < rows.count_columns() => {
+            let side = config.get_alignment_horizontal(Position::new(0, column));
+            matches!(side, AlignmentHorizontal::Right)
+        }
+        _ => is_numeric(options, lent_body(options, rows), column),
     }
 }
 

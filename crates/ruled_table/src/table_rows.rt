@@ -68,6 +68,36 @@ fn lent_cell<'a>(
     if width <= room { Some(text) } else { None }
 }
 
+// The text that is shown of a record in a column, within so many columns: as it is, in another form, wrapped or cut. Out
+// of line, since most texts are shown as they are and have room.
+#[inline(never)]
+fn made_cell<'a>(
+    alloc: Global,
+    options: &Options,
+    is_plain: bool,
+    room: usize,
+    fields: &'a TextRow,
+    place: Option<usize>,
+) -> Result<CowStr<'a>, AllocError>
+    requires { is_plain ≡ true → map (shown_text options.now) (fields_of fields.now) ≡ fields_of fields.now }
+    ensures { IfOk result (λ cell. cow_str_bytes cell ≡ spec.text_within options.now.bounds.overflow room (shown_text options.now (drawn_at (fields_of fields.now) place))) }
+{
+    let field = drawn_at(fields, place);
+    if is_plain && place.is_some() {
+        return lent_within(
+            alloc,
+            options.bounds.overflow,
+            room,
+            CowStr::Borrowed(field),
+        );
+    }
+    if get_text_width(field) <= room && stands(options, field) {
+        return Ok(CowStr::Borrowed(field));
+    }
+    let text = shown_text(alloc, options, field)?;
+    lent_within(alloc, options.bounds.overflow, room, text)
+}
+
 // The text that is shown of a record in a column, within so many columns. Most are shown as they are, so that is tested
 // first.
 fn cell_shown<'a>(
@@ -87,12 +117,7 @@ fn cell_shown<'a>(
             return Ok(CowStr::Borrowed(cell));
         }
     }
-    let field = drawn_at(fields, place);
-    if !is_plain && get_text_width(field) <= room && stands(options, field) {
-        return Ok(CowStr::Borrowed(field));
-    }
-    let text = shown_text(alloc, options, field)?;
-    lent_within(alloc, options.bounds.overflow, room, text)
+    made_cell(alloc, options, is_plain, room, fields, place)
 }
 
 // Adds the text that is shown of a record in a column within its width, the next one.
@@ -119,13 +144,15 @@ fn push_shown<'a>(
 fn cells_shown<'a>(
     alloc: Global,
     options: &Options,
+    is_plain: bool,
     places: &[Option<usize>],
     widths: &ConstantDimension,
     fields: &'a TextRow,
 ) -> Result<Vec<CowStr<'a>>, AllocError>
+    requires unchanged { is_plain ≡ true → map (shown_text options.now) (fields_of fields.now) ≡ fields_of fields.now }
+    requires plain { is_plain ≡ true → list_all (list_all is_plain_byte) (fields_of fields.now) ≡ true }
     ensures { IfOk result (λ cells. map cow_str_bytes cells.items ≡ spec.row_within options.now.bounds.overflow (spec.widths_in widths.now) (shown_row options.now places.now (fields_of fields.now))) }
 {
-    let is_plain = is_plain_record(options, fields);
     let mut cells = Vec::with_capacity(alloc, places.len())?;
     for place in places {
         push_shown(alloc, options, is_plain, widths, fields, *place, &mut cells)?;
@@ -137,14 +164,16 @@ fn cells_shown<'a>(
 const FEW: usize = 16;
 
 // Writes the texts that are shown of a row to the first of these cells, and says whether each is a line that is shown
-// unchanged and has room.
-fn fill_lent<'a>(
+// unchanged and has room. Plain rows have a shorter loop of their own.
+fn fill_cells<'a, const IS_PLAIN: bool>(
     options: &Options,
     places: &[Option<usize>],
     widths: &ConstantDimension,
     fields: &'a TextRow,
     cells: &mut [&'a str],
 ) -> bool
+    requires unchanged { IS_PLAIN ≡ true → map (shown_text options.now) (fields_of fields.now) ≡ fields_of fields.now }
+    requires plain { IS_PLAIN ≡ true → list_all (list_all is_plain_byte) (fields_of fields.now) ≡ true }
     ensures few { result ≡ true → length places.now ≤ length cells.new }
     ensures cells { result ≡ true → map (λ cell. cell.now) (take (length places.now) cells.new)
         ≡ spec.row_within options.now.bounds.overflow (spec.widths_in widths.now) (shown_row options.now places.now (fields_of fields.now)) }
@@ -153,14 +182,36 @@ fn fill_lent<'a>(
     if options.is_markdown || places.is_empty() || places.len() > cells.len() {
         return false;
     }
-    let is_plain = is_plain_record(options, fields);
     for (column, place) in places.iter().enumerate() {
-        match lent_cell(options, is_plain, room_of(widths, column), fields, *place) {
+        match lent_cell(options, IS_PLAIN, room_of(widths, column), fields, *place) {
             Some(cell) => cells[column] = cell,
             None => return false,
         }
     }
     true
+}
+
+// The same for plain rows and others.
+fn fill_lent<'a>(
+    options: &Options,
+    is_plain: bool,
+    places: &[Option<usize>],
+    widths: &ConstantDimension,
+    fields: &'a TextRow,
+    cells: &mut [&'a str],
+) -> bool
+    requires unchanged { is_plain ≡ true → map (shown_text options.now) (fields_of fields.now) ≡ fields_of fields.now }
+    requires plain { is_plain ≡ true → list_all (list_all is_plain_byte) (fields_of fields.now) ≡ true }
+    ensures few { result ≡ true → length places.now ≤ length cells.new }
+    ensures cells { result ≡ true → map (λ cell. cell.now) (take (length places.now) cells.new)
+        ≡ spec.row_within options.now.bounds.overflow (spec.widths_in widths.now) (shown_row options.now places.now (fields_of fields.now)) }
+    ensures single { result ≡ true → row_height (map (λ cell. cell.now) (take (length places.now) cells.new)) ≡ 1 }
+{
+    if is_plain {
+        fill_cells::<true>(options, places, widths, fields, cells)
+    } else {
+        fill_cells::<false>(options, places, widths, fields, cells)
+    }
 }
 
 impl<'a> TableRows<'a> {
@@ -199,11 +250,12 @@ impl<'a> TableRows<'a> {
     {
         let layout = self.layout;
         let (places, widths) = (&layout.places, &layout.widths);
+        let is_plain = is_plain_record(self.options, fields);
         let mut lent = [""; FEW];
-        if fill_lent(self.options, places, widths, fields, &mut lent) {
+        if fill_lent(self.options, is_plain, places, widths, fields, &mut lent) {
             return self.rows.push_lent(&lent[..places.len()], buf);
         }
-        let cells = cells_shown(self.alloc, self.options, places, widths, fields)?;
+        let cells = cells_shown(self.alloc, self.options, is_plain, places, widths, fields)?;
         self.rows.push(cells, buf)
     }
 

@@ -6,8 +6,10 @@ ghost use Rattle.std.specs.List.{range_with_len};
 ghost use Rattle.pg_table.specs.Overflowing.{beside_columns, limit_of};
 ghost use Rattle.pg_layout.specs.Text.{text_width_of};
 ghost use Rattle.pg_fit.specs.Wrapping.{wrapped};
+ghost use Rattle.pg_table.specs.Numbers.{is_number};
 ghost use Rattle.ruled_table.specs.Tables.{Tells, totals_of};
 ghost use Rattle.ruled_table.specs.Columns.{texts_of};
+ghost use Rattle.ruled_table.specs.Sides.{AreSided};
 ghost use Rattle.ruled_table.specs.Widths as spec;
 
 use crate::bounds::Bounds;
@@ -17,7 +19,7 @@ use crate::ranges::{kept_limits, text_width, widest_texts};
 use crate::table::{line_in, set_line_below, sided_config};
 use crate::view::{ViewFault, fault_in};
 use pg_config::SpannedConfig;
-use pg_fit::{Breaking, cut, least_width, wrap};
+use pg_fit::{Breaking, cut, is_printable, least_width, wrap};
 use pg_layout::{ConstantDimension, ExactRecords, NoColors, Records, get_text_width};
 use pg_table::numbers::is_number;
 use pg_table::{NaturalTable, Overflow, TableFault};
@@ -116,6 +118,9 @@ fn raised_to_wrapped(
     ensures room { IfOk result (λ found. IfSome found (λ wider. wider ≤ room)) }
     ensures fits { IfOk result (λ found. IfSome found (λ wider. spec.HasRoom breaking room text.now)) }
 {
+    if text.len() <= width {
+        return Ok(Some(width));
+    }
     let own = text_width(text);
     if own <= room {
         return Ok(Some(own.max(width)));
@@ -231,7 +236,8 @@ fn fitted_sizes(
     fields: LentRows<'_>,
     records: LentRows<'_>,
 ) -> Result<ConstantDimension, TableFault>
-    requires { spec.HasSpaces config.now }
+    requires spaces { spec.HasSpaces config.now }
+    requires sided { AreSided options.now config.now (texts_of fields) }
     ensures fault { spec.TellsTable (spec.fitted_fault options.now config.now (texts_of fields.entry) (texts_of records.entry)) result }
     ensures widths { IfOk result (λ sizes. spec.widths_in sizes ≡ spec.fitted_widths options.now config.now (texts_of fields.entry) (texts_of records.entry)) }
 {
@@ -254,7 +260,8 @@ fn sizes_of(
     fields: LentRows<'_>,
     records: LentRows<'_>,
 ) -> Result<ConstantDimension, TableFault>
-    requires { spec.HasSpaces config.now }
+    requires spaces { spec.HasSpaces config.now }
+    requires sided { AreSided options.now config.now (texts_of fields) }
     ensures widths { IfOk result (λ sizes. spec.widths_in sizes ≡ spec.widths_of options.now config.now (texts_of fields.entry) (texts_of records.entry)) }
     ensures fault { spec.TellsTable (spec.widths_fault options.now config.now (texts_of fields.entry) (texts_of records.entry)) result }
 {
@@ -272,7 +279,8 @@ pub fn sizes_of_rows(
     fields: LentRows<'_>,
     rows: LentRows<'_>,
 ) -> Result<ConstantDimension, ViewFault>
-    requires { spec.HasSpaces config.now }
+    requires spaces { spec.HasSpaces config.now }
+    requires sided { AreSided options.now config.now (texts_of fields) }
     ensures widths { IfOk result (λ sizes. spec.widths_in sizes ≡ spec.widths_of options.now config.now (texts_of fields.entry) (texts_of rows.entry)) }
     ensures fault { Tells (totals_of (spec.widths_fault options.now config.now (texts_of fields.entry) (texts_of rows.entry))) result }
 {
@@ -289,6 +297,30 @@ fn narrowed(alloc: Global, width: usize, text: String) -> Result<String, AllocEr
     cut(alloc, &text, width, "…")
 }
 
+// A text, wrapped in so many columns, and cut to them where a character of it has no room there. Each of printable ASCII
+// has room, so the lines of such a text aren't measured.
+#[tactic(auto, using(crate::proofs::Tables::broken_printable))]
+fn broken(alloc: Global, breaking: Breaking, width: usize, text: &str) -> Result<String, AllocError>
+    ensures { IfOk result (λ broken. string_bytes broken ≡ spec.narrowed width (wrapped breaking width text.now)) }
+{
+    let lines = wrap(alloc, text, width, breaking)?;
+    if width > 0 && is_printable(text.as_bytes()) {
+        return Ok(lines);
+    }
+    narrowed(alloc, width, lines)
+}
+
+// Whether a text is a number. Most others begin with a letter, by which they are found.
+#[tactic(auto, using(crate::proofs::LentTexts::no_number_by_letter))]
+fn is_figure(text: &str) -> bool
+    ensures { result ≡ is_number text.now }
+{
+    match text.as_bytes() {
+        [first, ..] if first.is_ascii_alphabetic() => false,
+        _ => is_number(text),
+    }
+}
+
 // A text that takes more columns, wrapped, or cut. A number is cut, so that nobody takes its first line for all of it;
 // of spaces behind it those without room go first.
 fn overflowed(
@@ -300,14 +332,14 @@ fn overflowed(
     ensures { IfOk result (λ shown. string_bytes shown ≡ spec.overflowed overflow.entry width text.now) }
 {
     let bare = text.trim_end();
-    if is_number(bare) {
+    if is_figure(bare) {
         if get_text_width(bare) <= width {
             return cut(alloc, text, width, "");
         }
         return cut(alloc, text, width, "…");
     }
     match overflow {
-        Overflow::Wrap(breaking) => narrowed(alloc, width, wrap(alloc, text, width, breaking)?),
+        Overflow::Wrap(breaking) => broken(alloc, breaking, width, text),
         Overflow::Cut(tail) => cut(alloc, text, width, tail),
     }
 }

@@ -2,7 +2,21 @@ use Rattle.std.proofs.Common.{◌≡◌, ◌≤◌, ap, arith, rules}
 use Rattle.pg_layout.specs.Text.{Text, text_width_of}
 use Rattle.pg_fit.specs.Wrapping.{wrapped}
 use Rattle.pg_fit.proofs.LawsOfTexts.{fitting_texts_stay, wrapped_texts_fit}
+use Rattle.ruled_table.proofs.LentTexts.{columns_by_bytes}
 use Rattle.ruled_table.proofs.widths.raised_to_wrapped.Goals as goal
+
+-- a text with no more bytes is no wider
+pub returns-then-text-width-clause-width : goal.returns-then-text-width-clause-width
+returns-then-text-width-clause-width c =
+    let text : Text = c.args.text.now in
+    let few = columns_by_bytes text c.utf8.text in
+    let stays : wrapped c.args.breaking c.args.room text ≡ text = fitting_texts_stay c.args.breaking c.args.room text (omega (arith, few, c.if-text-width.true, c.requires)) in
+    omega (arith, few, c.if-text-width.true, ap (λ (t : Text). text_width_of t) stays)
+
+pub returns-then-text-width-clause-fits : goal.returns-then-text-width-clause-fits
+returns-then-text-width-clause-fits c =
+    let few = columns_by_bytes c.args.text.now c.utf8.text in
+    record { characters = omega (arith, few, c.if-text-width.true, c.requires); encoded = c.utf8.text; counted = omega (arith, c.if-text-width.true) }
 
 pub returns-then-own-room-clause-width : goal.returns-then-own-room-clause-width
 returns-then-own-room-clause-width c =

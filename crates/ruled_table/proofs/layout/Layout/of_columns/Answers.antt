@@ -4,14 +4,22 @@ use Rattle.pg_config.specs.Config.{Config}
 use Rattle.ruled_table.specs.Tables.{totals_of}
 use Rattle.ruled_table.specs.Layouts.{plan_fault}
 use Rattle.ruled_table.specs.Columns.{texts_at}
+use Rattle.ruled_table.specs.Sides.{AreSided}
 use Rattle.ruled_table.specs.Widths.{HasSpaces, first_config, widths_fault, widths_in, widths_of}
 use Rattle.ruled_table.specs.declared.view.ViewFault.{ViewFault}
-use Rattle.ruled_table.proofs.Tables.{first-spaces, plain-config, told_on}
+use Rattle.ruled_table.proofs.Tables.{first-sides, first-spaces, plain-config, told_on}
 use Rattle.ruled_table.proofs.RowsInParts.{plan-made}
 use Rattle.ruled_table.proofs.layout.Layout.of_columns.Goals as goal
 
-pub sizes_of_rows-requires : goal.sizes_of_rows-requires
-sizes_of_rows-requires c = subst HasSpaces (sym c.in_ok-config.ensures) (first-spaces c.args.options.now _)
+pub sizes_of_rows-requires-clause-spaces : goal.sizes_of_rows-requires-clause-spaces
+sizes_of_rows-requires-clause-spaces c = subst HasSpaces (sym c.in_ok-config.ensures) (first-spaces c.args.options.now _)
+
+pub sizes_of_rows-requires-clause-sided : goal.sizes_of_rows-requires-clause-sided
+sizes_of_rows-requires-clause-sided c =
+    let options = c.args.options.now in
+    let fields : List Row = c.args.rows.fields.now in
+    let sided = subst (λ (config : Config). AreSided options config (texts_at c.deref.result.now fields)) (sym c.in_ok-config.ensures) (first-sides options _) in
+    sided
 
 pub returns-clause-layout : goal.returns-clause-layout
 returns-clause-layout c =

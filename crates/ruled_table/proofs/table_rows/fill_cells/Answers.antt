@@ -1,4 +1,4 @@
-use Rattle.std.proofs.Common.{◌≡◌, ◌<◌, ◌≤◌, ◌∙◌, ◌∷◌, ◌++◌, ◌+◌, ◌==◌, [], ℕ, List, None, Option, length, map, max, min, set, slice_index_or, sym, take, true, false, ap, arith, rules}
+use Rattle.std.proofs.Common.{◌≡◌, ◌<◌, ◌∙◌, ◌∷◌, ◌++◌, ◌+◌, ◌==◌, [], ℕ, List, None, Option, length, map, set, slice_index_or, take, false, ap, arith, rules}
 use Rattle.std.specs.Borrow.{Bor}
 use Rattle.std.proofs.lemmas.List.{length-set, length-take-le, map-append, take_more_set}
 use Rattle.std.proofs.lemmas.Bool.Decides.{nat_tests}
@@ -11,7 +11,7 @@ use Rattle.ruled_table.specs.Shown.{shown_text}
 use Rattle.ruled_table.specs.Widths.{room_of, text_within, widths_in}
 use Rattle.ruled_table.proofs.LentTexts.{height-push}
 use Rattle.ruled_table.proofs.RowsInParts.{within-all, within-next}
-use Rattle.ruled_table.proofs.table_rows.fill_lent.Goals as goal
+use Rattle.ruled_table.proofs.table_rows.fill_cells.Goals as goal
 
 -- the texts of cells of which one more is written
 written : (cells : List (Bor Text)) (i : ℕ) (cell : Bor Text) → i < length cells → map (λ c. c.now) (take (i + 1) (set cells i cell)) ≡ map (λ c. c.now) (take i cells) ++ cell.now ∷ []
@@ -19,7 +19,7 @@ written cells i cell within =
     ap (map (λ (c : Bor Text). c.now)) (take_more_set cells i cell within) ∙ map-append (λ (c : Bor Text). c.now) (take i cells) (cell ∷ [])
 
 pub loop-column-preserved : goal.loop-column-preserved
-loop-column-preserved c =
+loop-column-preserved g c =
     let options = c.args.options.now in
     let fields : List Text = fields_of c.args.fields.now in
     let places : List (Option ℕ) = c.args.places.now in
@@ -42,7 +42,7 @@ loop-column-preserved c =
     }
 
 pub returns-clause-cells : goal.returns-clause-cells
-returns-clause-cells c = λ done.
+returns-clause-cells g c = λ done.
     let options = c.args.options.now in
     let i = c.loop-column.column in
     let all : length c.args.places.now ≡ i = omega (arith, c.loop-column.invariant.within) in
@@ -50,7 +50,7 @@ returns-clause-cells c = λ done.
     c.loop-column.invariant.texts)
 
 pub returns-clause-single : goal.returns-clause-single
-returns-clause-single c = λ done.
+returns-clause-single g c = λ done.
     let all : length c.args.places.now ≡ c.loop-column.column = omega (arith, c.loop-column.invariant.within) in
     let some : (length c.args.places.now == 0) ≡ false = first_of (search rules, grind (arith, common_steps)) in
     let any : 0 < length c.args.places.now = grind (arith, nat_tests, some) in

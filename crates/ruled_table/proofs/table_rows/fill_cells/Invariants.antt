@@ -3,10 +3,10 @@ use Rattle.csv.specs.Records.{fields_of}
 use Rattle.pg_fit.specs.Rows.{row_height}
 use Rattle.ruled_table.specs.Shown.{shown_row}
 use Rattle.ruled_table.specs.Widths.{row_within, texts_within, widths_in}
-use Rattle.ruled_table.proofs.table_rows.fill_lent.Given as goal
+use Rattle.ruled_table.proofs.table_rows.fill_cells.Given as goal
 
 abbrev pub invariant-loop-column : goal.invariant-loop-column
-invariant-loop-column l = record {
+invariant-loop-column g l = record {
   many : length l.places ≤ length l.cells;
   within : l.column ≤ length l.places;
   texts : map (λ cell. cell.now) (take l.column l.cells)
