@@ -11,7 +11,7 @@ use Rattle.std.proofs.Math.Utf8.{encode, scalars, scalar}
 use Rattle.pg_fit.specs.Escapes.{begins_string, control_length, ends_string, final_length, run_length, sequence_length, short_length, shown_behind, string_length, terminator_length, unread, without_escapes}
 use Rattle.pg_fit.specs.Laws.{NoEscapesAreLeft, TextsWithoutEscapesStay, LineFeedsStay}
 use Rattle.pg_fit.specs.declared.escapes.Reading.{Reading}
-use Rattle.pg_fit.specs.declared.escapes.Reading.TheVariants.{Shown, Escaped, Short, Control, Command}
+use Rattle.pg_fit.specs.declared.escapes.Reading.TheVariants.{Shown, Escaped, Short, ControlSequence, ControlString}
 
 -- ---- a terminal reads one character after another
 
@@ -22,10 +22,10 @@ short c = cond (is_in_range 0x20 0x2F c) Short Shown
 -- where a character leads that is neither an escape nor a line feed
 abbrev within : Reading → ℕ → Reading
 within Shown c = Shown
-within Escaped c = cond (c == 0x5B) Control (cond (begins_string c) Command (short c))
+within Escaped c = cond (c == 0x5B) ControlSequence (cond (begins_string c) ControlString (short c))
 within Short c = short c
-within Control c = cond (is_in_range 0x20 0x3F c) Control Shown
-within Command c = cond (ends_string c) Shown Command
+within ControlSequence c = cond (is_in_range 0x20 0x3F c) ControlSequence Shown
+within ControlString c = cond (ends_string c) Shown ControlString
 
 -- an escape begins a sequence anywhere, and a line feed ends one
 abbrev pub after : Reading → ℕ → Reading
@@ -36,8 +36,8 @@ abbrev is_outside : Reading → ℕ → Bool
 is_outside Shown c = true
 is_outside Escaped c = not (is_in_range 0x20 0x7E c)
 is_outside Short c = not (is_in_range 0x20 0x7E c)
-is_outside Control c = not (is_in_range 0x20 0x7E c)
-is_outside Command c = false
+is_outside ControlSequence c = not (is_in_range 0x20 0x7E c)
+is_outside ControlString c = false
 
 abbrev pub is_shown : Reading → ℕ → Bool
 is_shown r c = not (c == 27) && ((c == 10) || is_outside r c)
@@ -52,9 +52,9 @@ at-feed : (r : Reading) (rest : List ℕ) → unread r (10 ∷ rest) ≡ 0
 at-feed Shown rest = refl
 at-feed Escaped rest = refl
 at-feed Short rest = refl
-at-feed Control rest = refl
-at-feed Command [] = refl
-at-feed Command (c ∷ cs) = refl
+at-feed ControlSequence rest = refl
+at-feed ControlString [] = refl
+at-feed ControlString (c ∷ cs) = refl
 
 terminator-one : (c : ℕ) (rest : List ℕ) → ends_string c ≡ true → terminator_length (c ∷ rest) ≡ 1
 terminator-one c [] ends = ap (λ v. cond v 1 0) ends
@@ -79,22 +79,22 @@ short-less c rest = elim (is_in_range 0x20 0x2F c) as (λ v. unread (cond v Shor
 within-less : (r : Reading) (c : ℕ) (rest : List ℕ) → (c == 27) ≡ false → (c == 10) ≡ false → unread (within r c) rest ≡ unread r (c ∷ rest) - 1
 within-less Shown c rest no_escape no_feed = refl
 within-less Escaped c rest no_escape no_feed =
-    elim (c == 0x5B) as (λ v. unread (cond v Control (cond (begins_string c) Command (short c))) rest
+    elim (c == 0x5B) as (λ v. unread (cond v ControlSequence (cond (begins_string c) ControlString (short c))) rest
     ≡ cond v (suc (control_length rest)) (cond (begins_string c) (suc (string_length rest)) (short_length (c ∷ rest))) - 1) [
       | true ↦ omega arith
-      | false ↦ elim (begins_string c) as (λ v. unread (cond v Command (short c)) rest ≡ cond v (suc (string_length rest)) (short_length (c ∷ rest)) - 1) [
+      | false ↦ elim (begins_string c) as (λ v. unread (cond v ControlString (short c)) rest ≡ cond v (suc (string_length rest)) (short_length (c ∷ rest)) - 1) [
         | true ↦ omega arith
         | false ↦ short-less c rest
       ]
     ]
 within-less Short c rest no_escape no_feed = short-less c rest
-within-less Control c rest no_escape no_feed =
-    elim (is_in_range 0x20 0x3F c) as (λ v. unread (cond v Control Shown) rest ≡ cond v (suc (control_length rest)) (final_length 0x40 0x7E (c ∷ rest)) - 1) [
+within-less ControlSequence c rest no_escape no_feed =
+    elim (is_in_range 0x20 0x3F c) as (λ v. unread (cond v ControlSequence Shown) rest ≡ cond v (suc (control_length rest)) (final_length 0x40 0x7E (c ∷ rest)) - 1) [
       | true ↦ omega arith
       | false ↦ final-less 0x40 0x7E c rest
     ]
-within-less Command c rest no_escape no_feed =
-    elim (ends_string c) as (λ v. ends_string c ≡ v → unread (cond v Shown Command) rest ≡ string_length (c ∷ rest) - 1) [
+within-less ControlString c rest no_escape no_feed =
+    elim (ends_string c) as (λ v. ends_string c ≡ v → unread (cond v Shown ControlString) rest ≡ string_length (c ∷ rest) - 1) [
       | true ↦ λ ends. ap (λ n. n - 1) (sym (terminator-one c rest ends)) ∙ ap (λ v. cond (not (v || (c == 27) || (c == 10))) (suc (string_length rest)) (terminator_length (c ∷ rest)) - 1) (sym ends)
       | false ↦ λ goes. let more = string-more c rest goes no_escape no_feed in omega (arith, more)
     ] refl
@@ -145,8 +145,8 @@ outside-unread Escaped c rest no_escape no_feed =
       ] refl
     ] refl
 outside-unread Short c rest no_escape no_feed = outside-run 0x2F c rest (omega arith) (omega arith)
-outside-unread Control c rest no_escape no_feed = outside-run 0x3F c rest (omega arith) (omega arith)
-outside-unread Command c rest no_escape no_feed =
+outside-unread ControlSequence c rest no_escape no_feed = outside-run 0x3F c rest (omega arith) (omega arith)
+outside-unread ControlString c rest no_escape no_feed =
     elim (ends_string c) as (λ v. ends_string c ≡ v → false ≡ (string_length (c ∷ rest) == 0)) [
       | true ↦ λ ends. ap (λ n. n == 0) (sym (terminator-one c rest ends))
           ∙ ap (λ v. cond (not (v || (c == 27) || (c == 10))) (suc (string_length rest)) (terminator_length (c ∷ rest)) == 0) (sym ends)
@@ -173,9 +173,9 @@ at-escape : (r : Reading) (rest : List ℕ) → shown_behind (unread r (27 ∷ r
 at-escape Shown rest = refl
 at-escape Escaped rest = refl
 at-escape Short rest = refl
-at-escape Control rest = refl
-at-escape Command [] = refl
-at-escape Command (d ∷ cs) = elim (d == 0x5C) as (λ v. (d == 0x5C) ≡ v → shown_behind (cond v 2 0) (27 ∷ d ∷ cs) ≡ shown_behind (sequence_length (d ∷ cs)) (d ∷ cs)) [
+at-escape ControlSequence rest = refl
+at-escape ControlString [] = refl
+at-escape ControlString (d ∷ cs) = elim (d == 0x5C) as (λ v. (d == 0x5C) ≡ v → shown_behind (cond v 2 0) (27 ∷ d ∷ cs) ≡ shown_behind (sequence_length (d ∷ cs)) (d ∷ cs)) [
   | true ↦ λ is. subst (λ e. shown_behind 2 (27 ∷ e ∷ cs) ≡ shown_behind (sequence_length (e ∷ cs)) (e ∷ cs)) (same 0x5C d is) refl
   | false ↦ λ other. refl
 ] refl

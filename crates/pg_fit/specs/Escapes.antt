@@ -4,7 +4,7 @@ use Rattle.std.specs.Int.{is_in_range}
 use Rattle.std.specs.Str.{encode_utf8_all}
 use Rattle.pg_layout.specs.Text.{Text}
 use Rattle.pg_fit.specs.declared.escapes.Reading.{Reading}
-use Rattle.pg_fit.specs.declared.escapes.Reading.TheVariants.{Shown, Escaped, Short, Control, Command}
+use Rattle.pg_fit.specs.declared.escapes.Reading.TheVariants.{Shown, Escaped, Short, ControlSequence, ControlString}
 
 -- ---- how many characters in front are part of a sequence: an unfinished one ends before the first other character, or with the text
 
@@ -68,5 +68,5 @@ abbrev pub unread : Reading → List ℕ → ℕ
 unread Shown cs = 0
 unread Escaped cs = sequence_length cs
 unread Short cs = short_length cs
-unread Control cs = control_length cs
-unread Command cs = string_length cs
+unread ControlSequence cs = control_length cs
+unread ControlString cs = string_length cs

@@ -15,12 +15,12 @@ pub(crate) enum Reading {
     /// Reads it as the rest of a short sequence, such as the choice of a character set.
     Short,
     /// Reads it as a part of a control sequence (CSI), such as a colour.
-    Control,
-    /// Reads it as a part of a command (OSC), such as a link or a title.
-    Command,
+    ControlSequence,
+    /// Reads it as a part of a control string, such as a command (OSC) for a link or a title.
+    ControlString,
 }
 
-// Whether a character behind an escape begins a command or another string that ST ends.
+// Whether a character behind an escape begins a command or another control string, which ST ends.
 fn begins_string(c: char) -> bool
     ensures { result ≡ begins_string c }
 {
@@ -36,12 +36,12 @@ impl Reading {
         match (self, c) {
             (_, '\u{1b}') => Reading::Escaped,
             (_, '\n') => Reading::Shown,
-            (Reading::Escaped, '[') => Reading::Control,
+            (Reading::Escaped, '[') => Reading::ControlSequence,
             (Reading::Escaped | Reading::Short, ' '..='/') => Reading::Short,
-            (Reading::Escaped, _) if begins_string(c) => Reading::Command,
-            (Reading::Control, ' '..='?') => Reading::Control,
-            (Reading::Command, '\u{7}' | '\u{9c}') => Reading::Shown,
-            (Reading::Command, _) => Reading::Command,
+            (Reading::Escaped, _) if begins_string(c) => Reading::ControlString,
+            (Reading::ControlSequence, ' '..='?') => Reading::ControlSequence,
+            (Reading::ControlString, '\u{7}' | '\u{9c}') => Reading::Shown,
+            (Reading::ControlString, _) => Reading::ControlString,
             _ => Reading::Shown,
         }
     }
@@ -54,8 +54,9 @@ impl Reading {
         match (self, c) {
             (_, '\u{1b}') => false,
             (_, '\n') | (Reading::Shown, _) => true,
-            (Reading::Escaped | Reading::Short | Reading::Control, _) => !(' '..='~').contains(&c),
-            (Reading::Command, _) => false,
+            (Reading::Escaped | Reading::Short | Reading::ControlSequence, _) =>
+                !(' '..='~').contains(&c),
+            (Reading::ControlString, _) => false,
         }
     }
 }
