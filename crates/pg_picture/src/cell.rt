@@ -5,11 +5,11 @@ ghost use Rattle.pg_layout.specs.Colors.{lent_color};
 ghost use Rattle.pg_layout.specs.Text.{lines_of, width_of};
 ghost use Rattle.pg_picture.specs.Appending.{Appends};
 ghost use Rattle.pg_picture.specs.Fits.{cell_fits};
-ghost use Rattle.pg_picture.specs.Pieces.{written, fill, repeated, widest, inner_width, line_with, block_line};
+ghost use Rattle.pg_picture.specs.Pieces.{written, fill, in_color, repeated, widest, inner_width, line_with, block_line};
 ghost use Rattle.pg_picture.specs.Inside.{HasRoomFor, style_of, facts_of, place_of, share_of, line_if, line_parts, placed_line, shows_texts_whole, has_plain_sides};
 
 use crate::facts::trim_if;
-use crate::fill::push_repeated;
+use crate::fill::{push_repeated, push_short_text};
 use crate::piece::{push_fill, push_words};
 use crate::place::CellPlace;
 use crate::share::calculate_indent;
@@ -123,8 +123,23 @@ pub(crate) fn push_plain_parts<C: ANSIFmt, B: Allocator, A: Allocator>(
     ensures { Appends buf.old buf.new result (line_parts (style_of style.now) (lent_color C.color_of color.entry) share rest line.now) }
 {
     push_columns(buf, style.justification, style.padding.left.size + share)?;
-    push_words(buf, line, color)?;
+    push_short_words(buf, line, color)?;
     push_columns(buf, style.justification, rest + style.padding.right.size)
+}
+
+// Appends a line in its colour, like `push_words`. Most lines without a colour are short.
+#[inline(always)]
+fn push_short_words<C: ANSIFmt, A: Allocator>(
+    buf: &mut String<A>,
+    line: &str,
+    color: Option<&C>,
+) -> Result<(), AllocError>
+    ensures { Appends buf.old buf.new result (in_color (lent_color C.color_of color.entry) line.now) }
+{
+    match color {
+        None => push_short_text(buf, line),
+        Some(_) => push_words(buf, line, color),
+    }
 }
 
 #[inline(always)]

@@ -25,6 +25,24 @@ pub fn push_text<A: Allocator>(buf: &mut String<A>, text: &str) -> Result<(), Al
     buf.push_str(text)
 }
 
+/// Appends a text. One of at most three bytes is copied without a call, since each arm knows how many it copies.
+///
+/// The only error is out of memory.
+#[inline(always)]
+pub(crate) fn push_short_text<A: Allocator>(
+    buf: &mut String<A>,
+    text: &str,
+) -> Result<(), AllocError>
+    ensures { Appends buf.old buf.new result text.now }
+{
+    match text.len() {
+        1 => push_text(buf, text),
+        2 => push_text(buf, text),
+        3 => push_text(buf, text),
+        _ => push_text(buf, text),
+    }
+}
+
 /// Appends a character.
 ///
 /// The only error is out of memory.

@@ -1,6 +1,7 @@
 //! The line of a cell that has one.
 
-ghost use Rattle.std.specs.Prelude.{◌≡◌, true};
+ghost use Rattle.std.specs.Prelude.{◌≡◌, ◌∷◌, [], true};
+ghost use Rattle.pg_layout.specs.Text.{lines_of, width_of};
 ghost use Rattle.pg_config.specs.Config.{get_alignment_horizontal};
 ghost use Rattle.pg_picture.specs.Appending.{Appends};
 ghost use Rattle.pg_picture.specs.Fits.{cell_fits};
@@ -51,19 +52,18 @@ where
     ) -> Result<(), AllocError>
         ensures { Appends buf.old buf.new result (written (block_line (style_at T.table.config cell.entry.pos) (T.table.color cell.entry.pos) cell.entry.text.now cell.entry.width 1 0)) }
     {
-        match &self.sheet.all {
-            Some(style) => {
-                if self.sheet.is_simple {
-                    return self.push_simple(buf, style, cell);
+        if let Some(style) = &self.sheet.all {
+            if self.sheet.is_simple {
+                if let Some(line_width) = single_line_width(cell.text, cell.kind) {
+                    return self.push_simple(buf, style, cell, line_width);
                 }
-                self.push_aligned(buf, style, cell)
             }
-            None => self.push_in_own_style(buf, cell),
         }
+        self.push_in_own_style(buf, cell)
     }
 
-    // Appends the line in the cell's own style, which is looked up. It is out of line, so that the
-    // code of the other cases is small enough to be inlined.
+    // Appends the line in the cell's own style. It is out of line, so that the code of the usual case is
+    // small enough to be inlined.
     #[inline(never)]
     fn push_in_own_style<A: Allocator>(
         self,
@@ -72,41 +72,34 @@ where
     ) -> Result<(), AllocError>
         ensures { Appends buf.old buf.new result (written (block_line (style_at T.table.config cell.entry.pos) (T.table.color cell.entry.pos) cell.entry.text.now cell.entry.width 1 0)) }
     {
-        let style = CellStyle::of(self.sheet.config, cell.pos);
-        self.push_in_style(buf, &style, cell)
+        match &self.sheet.all {
+            Some(style) => {
+                let aligned = style.aligned(self.side_of(cell.pos));
+                self.push_in_style(buf, &aligned, cell)
+            }
+            None => {
+                let style = CellStyle::of(self.sheet.config, cell.pos);
+                self.push_in_style(buf, &style, cell)
+            }
+        }
     }
 
-    // Appends the line in this style with the cell's own horizontal alignment. It is rare enough to be out
-    // of line.
-    #[inline(never)]
-    fn push_aligned<A: Allocator>(
-        self,
-        buf: &mut String<A>,
-        style: &CellStyle<'_, B>,
-        cell: SingleCell<'_, T>,
-    ) -> Result<(), AllocError>
-        requires style { record (style_of style.now) { across = get_alignment_horizontal T.table.config cell.pos } ≡ style_at T.table.config cell.pos }
-        ensures { Appends buf.old buf.new result (written (block_line (style_at T.table.config cell.entry.pos) (T.table.color cell.entry.pos) cell.entry.text.now cell.entry.width 1 0)) }
-    {
-        let aligned = style.aligned(self.side_of(cell.pos));
-        self.push_in_style(buf, &aligned, cell)
-    }
-
-    // Appends the line in a style that is simple to draw, with the cell's own horizontal alignment.
+    // Appends the line, of so many columns, in a style that is simple to draw, with the cell's own
+    // horizontal alignment.
     #[inline(always)]
     fn push_simple<A: Allocator>(
         self,
         buf: &mut String<A>,
         style: &CellStyle<'_, B>,
         cell: SingleCell<'_, T>,
+        line_width: usize,
     ) -> Result<(), AllocError>
         requires style { record (style_of style.now) { across = get_alignment_horizontal T.table.config cell.pos } ≡ style_at T.table.config cell.pos }
         requires simple { is_simple (style_of style.now) ≡ true }
+        requires one { lines_of cell.text.now ≡ cell.text.now ∷ [] }
+        requires width { line_width ≡ width_of cell.text.now }
         ensures { Appends buf.old buf.new result (written (block_line (style_at T.table.config cell.entry.pos) (T.table.color cell.entry.pos) cell.entry.text.now cell.entry.width 1 0)) }
     {
-        let Some(line_width) = single_line_width(cell.text, cell.kind) else {
-            return self.push_aligned(buf, style, cell);
-        };
         let side = self.side_of(cell.pos);
         let color = self.color_of(cell.pos);
         let inner = inner_width(style, cell.width);

@@ -8,12 +8,12 @@ returns-in_err-push_columns g c =
     Appends-text (plain-line (style_of c.args.style.now) _ c.args.share c.args.rest c.args.line.now c.requires.plain)
     (stopped _ c.from_residual.ensures.0 c.in_err-push_columns.ensures)
 
-pub returns-in_err-push_words : goal.returns-in_err-push_words
-returns-in_err-push_words g c =
+pub returns-in_err-push_short_words : goal.returns-in_err-push_short_words
+returns-in_err-push_short_words g c =
     Appends-text (plain-line (style_of c.args.style.now) _ c.args.share c.args.rest c.args.line.now c.requires.plain)
-    (c.in_ok-push_columns.ensures then (stopped _ c.from_residual-in_err-push_words.ensures.0 c.in_err-push_words.ensures))
+    (c.in_ok-push_columns.ensures then (stopped _ c.from_residual-in_err-push_short_words.ensures.0 c.in_err-push_short_words.ensures))
 
 pub returns : goal.returns
 returns g c =
     Appends-text (plain-line (style_of c.args.style.now) _ c.args.share c.args.rest c.args.line.now c.requires.plain)
-    (c.in_ok-push_columns.ensures then (c.in_ok-push_words.ensures then c.push_columns-2.ensures))
+    (c.in_ok-push_columns.ensures then (c.in_ok-push_short_words.ensures then c.push_columns-2.ensures))

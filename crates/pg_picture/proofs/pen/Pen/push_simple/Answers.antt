@@ -24,7 +24,7 @@ calculate_indent-share-requires g c =
     let style = aligned (style_of c.args.style.now) (get_alignment_horizontal g.T.TableMarker.table.config c.args.cell.pos) in
     let cell = c.args.cell in
     let fits : cell_fits style cell.text.now cell.width 1 ≡ true = ap (λ s. cell_fits s cell.text.now cell.width 1) c.requires.style ∙ cell.has_room in
-    let room = room-of-whole style cell.text.now cell.width c.in-Some.line_width (simple-parts style c.requires.simple).0 c.in-Some.ensures.one c.in-Some.ensures.width (cell_fits-width style cell.text.now cell.width 1 (lit< tt) fits) in
+    let room = room-of-whole style cell.text.now cell.width c.args.line_width (simple-parts style c.requires.simple).0 c.requires.one c.requires.width (cell_fits-width style cell.text.now cell.width 1 (lit< tt) fits) in
     omega (arith, room, c.inner_width-inner.ensures)
 
 pub overflow_sub-inner : goal.overflow_sub-inner
@@ -33,8 +33,8 @@ overflow_sub-inner g c =
     let style = aligned (style_of c.args.style.now) (get_alignment_horizontal g.T.TableMarker.table.config c.args.cell.pos) in
     let cell = c.args.cell in
     let fits : cell_fits style cell.text.now cell.width 1 ≡ true = ap (λ s. cell_fits s cell.text.now cell.width 1) c.requires.style ∙ cell.has_room in
-    let room = room-of-whole style cell.text.now cell.width c.in-Some.line_width (simple-parts style c.requires.simple).0 c.in-Some.ensures.one c.in-Some.ensures.width (cell_fits-width style cell.text.now cell.width 1 (lit< tt) fits) in
-    let left = ap (λ (n : ℕ × ℕ). n.0) (c.calculate_indent-share.ensures ∙ ap₂ (λ s n. shares s c.in-Some.line_width n) c.side_of-side.ensures c.inner_width-inner.ensures) in
+    let room = room-of-whole style cell.text.now cell.width c.args.line_width (simple-parts style c.requires.simple).0 c.requires.one c.requires.width (cell_fits-width style cell.text.now cell.width 1 (lit< tt) fits) in
+    let left = ap (λ (n : ℕ × ℕ). n.0) (c.calculate_indent-share.ensures ∙ ap₂ (λ s n. shares s c.args.line_width n) c.side_of-side.ensures c.inner_width-inner.ensures) in
     omega (arith, room, left, c.inner_width-inner.ensures)
 
 pub overflow_sub-inner-2 : goal.overflow_sub-inner-2
@@ -43,8 +43,8 @@ overflow_sub-inner-2 g c =
     let style = aligned (style_of c.args.style.now) (get_alignment_horizontal g.T.TableMarker.table.config c.args.cell.pos) in
     let cell = c.args.cell in
     let fits : cell_fits style cell.text.now cell.width 1 ≡ true = ap (λ s. cell_fits s cell.text.now cell.width 1) c.requires.style ∙ cell.has_room in
-    let room = room-of-whole style cell.text.now cell.width c.in-Some.line_width (simple-parts style c.requires.simple).0 c.in-Some.ensures.one c.in-Some.ensures.width (cell_fits-width style cell.text.now cell.width 1 (lit< tt) fits) in
-    let left = ap (λ (n : ℕ × ℕ). n.0) (c.calculate_indent-share.ensures ∙ ap₂ (λ s n. shares s c.in-Some.line_width n) c.side_of-side.ensures c.inner_width-inner.ensures) in
+    let room = room-of-whole style cell.text.now cell.width c.args.line_width (simple-parts style c.requires.simple).0 c.requires.one c.requires.width (cell_fits-width style cell.text.now cell.width 1 (lit< tt) fits) in
+    let left = ap (λ (n : ℕ × ℕ). n.0) (c.calculate_indent-share.ensures ∙ ap₂ (λ s n. shares s c.args.line_width n) c.side_of-side.ensures c.inner_width-inner.ensures) in
     omega (arith, room, left, c.inner_width-inner.ensures)
 
 pub push_plain_parts-requires-clause-left : goal.push_plain_parts-requires-clause-left
@@ -53,8 +53,8 @@ push_plain_parts-requires-clause-left g c =
     let style = aligned (style_of c.args.style.now) (get_alignment_horizontal g.T.TableMarker.table.config c.args.cell.pos) in
     let cell = c.args.cell in
     let fits : cell_fits style cell.text.now cell.width 1 ≡ true = ap (λ s. cell_fits s cell.text.now cell.width 1) c.requires.style ∙ cell.has_room in
-    let room = room-of-whole style cell.text.now cell.width c.in-Some.line_width (simple-parts style c.requires.simple).0 c.in-Some.ensures.one c.in-Some.ensures.width (cell_fits-width style cell.text.now cell.width 1 (lit< tt) fits) in
-    let left = ap (λ (n : ℕ × ℕ). n.0) (c.calculate_indent-share.ensures ∙ ap₂ (λ s n. shares s c.in-Some.line_width n) c.side_of-side.ensures c.inner_width-inner.ensures) in
+    let room = room-of-whole style cell.text.now cell.width c.args.line_width (simple-parts style c.requires.simple).0 c.requires.one c.requires.width (cell_fits-width style cell.text.now cell.width 1 (lit< tt) fits) in
+    let left = ap (λ (n : ℕ × ℕ). n.0) (c.calculate_indent-share.ensures ∙ ap₂ (λ s n. shares s c.args.line_width n) c.side_of-side.ensures c.inner_width-inner.ensures) in
     omega (arith, room, left, c.inner_width-inner.ensures)
 
 pub push_plain_parts-requires-clause-right : goal.push_plain_parts-requires-clause-right
@@ -63,8 +63,8 @@ push_plain_parts-requires-clause-right g c =
     let style = aligned (style_of c.args.style.now) (get_alignment_horizontal g.T.TableMarker.table.config c.args.cell.pos) in
     let cell = c.args.cell in
     let fits : cell_fits style cell.text.now cell.width 1 ≡ true = ap (λ s. cell_fits s cell.text.now cell.width 1) c.requires.style ∙ cell.has_room in
-    let room = room-of-whole style cell.text.now cell.width c.in-Some.line_width (simple-parts style c.requires.simple).0 c.in-Some.ensures.one c.in-Some.ensures.width (cell_fits-width style cell.text.now cell.width 1 (lit< tt) fits) in
-    let left = ap (λ (n : ℕ × ℕ). n.0) (c.calculate_indent-share.ensures ∙ ap₂ (λ s n. shares s c.in-Some.line_width n) c.side_of-side.ensures c.inner_width-inner.ensures) in
+    let room = room-of-whole style cell.text.now cell.width c.args.line_width (simple-parts style c.requires.simple).0 c.requires.one c.requires.width (cell_fits-width style cell.text.now cell.width 1 (lit< tt) fits) in
+    let left = ap (λ (n : ℕ × ℕ). n.0) (c.calculate_indent-share.ensures ∙ ap₂ (λ s n. shares s c.args.line_width n) c.side_of-side.ensures c.inner_width-inner.ensures) in
     omega (arith, room, left, c.inner_width-inner.ensures)
 
 pub returns : goal.returns
@@ -72,5 +72,5 @@ unfolding inner_width
 returns g c =
     let style = aligned (style_of c.args.style.now) (get_alignment_horizontal g.T.TableMarker.table.config c.args.cell.pos) in
     let cell = c.args.cell in
-    let left = ap (λ (n : ℕ × ℕ). n.0) (c.calculate_indent-share.ensures ∙ ap₂ (λ s n. shares s c.in-Some.line_width n) c.side_of-side.ensures c.inner_width-inner.ensures) in
-    Appends-text (single-measured style _ _ _ cell.text.now cell.width c.inner_width-inner.result c.calculate_indent-share.result.0 c.in-Some.line_width c.requires.style c.color_of-color.ensures (simple-parts style c.requires.simple).0 c.in-Some.ensures.one c.inner_width-inner.ensures c.in-Some.ensures.width left) c.push_plain_parts.ensures
+    let left = ap (λ (n : ℕ × ℕ). n.0) (c.calculate_indent-share.ensures ∙ ap₂ (λ s n. shares s c.args.line_width n) c.side_of-side.ensures c.inner_width-inner.ensures) in
+    Appends-text (single-measured style _ _ _ cell.text.now cell.width c.inner_width-inner.result c.calculate_indent-share.result.0 c.args.line_width c.requires.style c.color_of-color.ensures (simple-parts style c.requires.simple).0 c.requires.one c.inner_width-inner.ensures c.requires.width left) c.push_plain_parts.ensures
