@@ -2,6 +2,7 @@
 
 use crate::case::CaseFault;
 use crate::values::Fact;
+use pg_fit::ColumnRange;
 use pg_layout::{
     AlignmentHorizontal, Border, Borders, Color, Entity, ExactRecords, Position, Sides,
 };
@@ -60,6 +61,8 @@ enum Export {
     Picture,
     /// The picture whose lines are so wide: a column takes what they lack, and longer texts are cut.
     Filled(usize, usize),
+    /// The picture within a width, if column 0 is at least and column 1 at most so wide: longer texts are cut.
+    Ranged(usize, usize, usize),
     /// The picture within so many columns, whose title is at the right of the first line.
     Titled(usize, &'static str),
     /// The picture of its columns as rows.
@@ -129,6 +132,27 @@ const CASES: &[Case] = &[
         call: Call::Nothing,
         export: Export::Filled(10, 2),
         text: "+--+-+\n|ab|c|\n+--+-+\n|d |e|\n+--+-+",
+    },
+    Case {
+        name: "a column is not narrowed below its range",
+        rows: &[&["abcdef", "ghijkl"]],
+        call: Call::Nothing,
+        export: Export::Ranged(11, 6, usize::MAX),
+        text: "+------+--+\n|abcdef|g…|\n+------+--+",
+    },
+    Case {
+        name: "a column is not wider than its range and one without a range stays",
+        rows: &[&["abcdef", "ghijkl", "mnop"]],
+        call: Call::Nothing,
+        export: Export::Ranged(80, 9, 3),
+        text: "+------+---+----+\n|abcdef|gh…|mnop|\n+------+---+----+",
+    },
+    Case {
+        name: "ranges hold where their least widths are wider than the line",
+        rows: &[&["abcdef", "ghijkl"]],
+        call: Call::Nothing,
+        export: Export::Ranged(4, 5, 3),
+        text: "+-----+-+\n|abcd…|…|\n+-----+-+",
     },
     Case {
         name: "a panel is over a column that takes what lines lack",
@@ -434,6 +458,27 @@ fn titled<'m>(
     table.within(alloc, width, how)?.to_string(alloc)
 }
 
+// The picture of a table within a width, with ranges of its columns.
+fn ranged<'m>(
+    alloc: &'m Refusing<Global>,
+    table: &Table<&'static str, &'m Refusing<Global>>,
+    width: usize,
+    least: usize,
+    most: usize,
+) -> Result<String<&'m Refusing<Global>>, TableFault> {
+    let first = ColumnRange {
+        least,
+        natural: usize::MAX,
+    };
+    let second = ColumnRange {
+        least: 0,
+        natural: most,
+    };
+    table
+        .within_columns(alloc, width, &[first, second], Overflow::Cut("…"))?
+        .to_string(alloc)
+}
+
 // The picture of a table, a text and the picture again.
 fn beside<'m>(
     alloc: &'m Refusing<Global>,
@@ -455,6 +500,7 @@ fn text_of<'m>(
         Export::Filled(width, column) => table
             .filled(alloc, width, column, Overflow::Cut("…"))?
             .to_string(alloc),
+        Export::Ranged(width, least, most) => ranged(alloc, &table, width, least, most),
         Export::Titled(width, title) => titled(alloc, table, width, title),
         Export::Transposed => table.transposed(alloc)?.to_string(alloc),
         Export::Beside(gap) => beside(alloc, &table.to_string(alloc)?, gap),
