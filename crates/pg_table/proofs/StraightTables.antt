@@ -1,8 +1,8 @@
 -- Straight tables: at natural sizes, in narrow looks, and with titles that change nothing.
-use Rattle.std.proofs.Common.{◌≡◌, ℕ, ◌<◌, ◌==◌, true, false, List, length, Bool, refl, arith, Option, Some, None, IfSome, inl, inr, [], ◌∷◌, map, sym, ◌∙◌, zero, suc, ◌+◌, ◌≤◌, ◌&&◌, nat_lt, if◌then◌else◌, encode_utf8, subst}
+use Rattle.std.proofs.Common.{◌≡◌, ℕ, ◌<◌, ◌==◌, true, false, List, length, Bool, refl, arith, Option, Some, None, IfSome, inl, inr, [], ◌∷◌, map, sym, ◌∙◌, zero, suc, ◌+◌, ◌≤◌, ◌&&◌, nat_lt, if◌then◌else◌, encode_utf8, chars, subst, ap}
 use Rattle.std.specs.Option.{option_or}
 use Rattle.std.specs.Prelude.{nat_le, not, String, string_bytes, Result, Ok, Err, IfOk, IsOk, OnErr, OnOk}
-use Rattle.std.proofs.lemmas.Bool.{cases_Bool, false≢true, and_parts}
+use Rattle.std.proofs.lemmas.Bool.{cases_Bool, false≢true, and_parts, and_right}
 use Rattle.std.proofs.lemmas.Bool.Decides.{nat_tests}
 use Rattle.pg_layout.specs.declared.position.Position.{Position}
 use Rattle.pg_layout.specs.Borders.{ends, horizontal_glyph, vertical_glyph, crossing_glyph}
@@ -27,10 +27,10 @@ use Rattle.pg_table.proofs.Faults.{fault-none}
 use Rattle.std.proofs.lemmas.List.{length-map}
 use Rattle.std.proofs.lemmas.Str.{chars-nil}
 use Rattle.pg_layout.specs.declared.alignment.AlignmentHorizontal.{AlignmentHorizontal}
-use Rattle.pg_config.specs.LineGlyphs.{with_line_glyphs}
+use Rattle.pg_config.specs.LineGlyphs.{with_line_color, with_line_glyphs}
 use Rattle.pg_table.specs.Numbers.{lacking}
-use Rattle.pg_table.specs.OwnRows.{is_in_column, longest_rest, own_sizes, spaced_config, titled, titled_at, widened_right, HasPointsAligned}
-use Rattle.pg_table.specs.Panels.{with_title, with_title_at, with_inner_line, along_column, along_row, borders_round, column_borders, frame_borders}
+use Rattle.pg_table.specs.OwnRows.{is_in_column, longest_rest, own_sizes, spaced_config, titled, titled_at, titled_in, widened_right, HasPointsAligned}
+use Rattle.pg_table.specs.Panels.{with_title, with_title_at, with_title_color, with_inner_line, along_column, along_row, borders_round, column_borders, frame_borders}
 use Rattle.pg_table.specs.Inside.{borders_left_of}
 use Rattle.pg_table.specs.Panels.{frame_corner, frame_crossing, frame_horizontal, frame_vertical, is_on_column, is_on_row, IsFramed}
 use Rattle.pg_table.specs.declared.table.lines.Frame.{Frame}
@@ -39,7 +39,7 @@ use Rattle.unicode_width.proofs.Computing.{unicode_width}
 use Rattle.pg_layout.specs.declared.borders.Border.{Border}
 use Rattle.pg_layout.specs.declared.borders.Borders.{Borders}
 use Rattle.pg_layout.specs.declared.borders.HorizontalLine.{HorizontalLine}
-use Rattle.pg_layout.specs.Records.{text_at}
+use Rattle.pg_layout.specs.Records.{columns_of, text_at}
 use Rattle.pg_layout.specs.declared.alignment.AlignmentHorizontal.TheVariants.{Right}
 use Rattle.pg_layout.specs.declared.position.Entity.TheVariants.{Column, Global}
 use Rattle.pg_layout.specs.declared.sides.Indent.{Indent}
@@ -158,6 +158,18 @@ module _ {T : Type 0} (r : ℕ) (side : AlignmentHorizontal) (t : Parts T) where
         | inl there ↦ rw (empty, chars-nil, there) refl
         | inr absent ↦ untitled-absent title widths absent
       ]
+
+  -- nor does one in a colour
+  uncolored : (title : Text) (color : Color) (widths : List ℕ) → (nat_lt 0 (length (chars title)) && has_horizontal t.config r (length t.rows)) ≡ false
+      → with_title_color r side (length (chars title)) color widths (length t.rows) (columns_of t.rows) t.config ≡ t.config
+  unfolding with_title_color with_line_color
+  uncolored title color widths none = rw none refl
+
+  pub uncolored-absent : (title : Text) (color : Color) (widths : List ℕ) → has_horizontal t.config r (length t.rows) ≡ false → titled_in color r side title widths t ≡ t
+  uncolored-absent title color widths absent = rw (uncolored title color widths (and_right _ _ absent)) (untitled-absent title widths absent)
+
+  pub uncolored-empty : (title : Text) (color : Color) (widths : List ℕ) → title ≡ [] → titled_in color r side title widths t ≡ t
+  uncolored-empty title color widths empty = rw (uncolored title color widths (rw (empty, chars-nil) refl)) (untitled-empty title widths empty)
 
   -- a title by the natural widths
   pub titled-natural : (text : T → Text) (title : Text) → titled r side title text t ≡ titled_at r side title (own_sizes Columns text t) t
@@ -588,4 +600,4 @@ pub ruleset narrow_looks = (looks-are-narrow)
 pub ruleset narrow_settings = (told-borders, told-nothing)
 
 -- titles that change nothing
-pub ruleset untitled_lines = (no_text, untitled-absent, untitled-empty)
+pub ruleset untitled_lines = (no_text, untitled-absent, untitled-empty, uncolored-absent, uncolored-empty)

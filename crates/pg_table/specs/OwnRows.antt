@@ -1,5 +1,5 @@
 -- A table with rows of its own: its sizes, and the tables that its settings make of it.
-use Rattle.std.specs.Prelude.{◌≡◌, ℕ, ◌+◌, ◌-◌, ◌^◌, ◌++◌, ◌∷◌, [], List, map, min, length, replicate, Option, ◌==◌, ◌&&◌, ◌||◌, ◌≤◌, Bool, nat_le, nat_lt, if◌then◌else◌}
+use Rattle.std.specs.Prelude.{◌≡◌, ℕ, ◌+◌, ◌-◌, ◌^◌, ◌++◌, ◌∷◌, [], List, map, min, chars, length, replicate, Option, ◌==◌, ◌&&◌, ◌||◌, ◌≤◌, Bool, nat_le, nat_lt, if◌then◌else◌}
 use Rattle.pg_layout.specs.declared.alignment.AlignmentHorizontal.{AlignmentHorizontal}
 use Rattle.pg_layout.specs.declared.alignment.AlignmentHorizontal.TheVariants.{Right}
 use Rattle.pg_layout.specs.declared.borders.Borders.{Borders}
@@ -9,13 +9,14 @@ use Rattle.pg_layout.specs.declared.position.Entity.TheVariants.{Column, Global}
 use Rattle.pg_layout.specs.declared.position.Position.{Position}
 use Rattle.pg_layout.specs.declared.sides.Indent.{Indent}
 use Rattle.pg_layout.specs.declared.sides.Sides.{Sides}
+use Rattle.pg_layout.specs.Colors.{Color}
 use Rattle.pg_layout.specs.Records.{columns_of, text_at}
 use Rattle.pg_layout.specs.Sides.{spaces}
 use Rattle.pg_layout.specs.Text.{Text, greatest}
 use Rattle.pg_config.specs.Config.{Config, default_config, get_padding}
 use Rattle.pg_config.specs.Settings.{Settings, with_setting}
 use Rattle.pg_table.specs.Numbers.{is_number_or_blank, lacking, own_extent}
-use Rattle.pg_table.specs.Panels.{panelled, with_span_crossings, with_title, with_title_at}
+use Rattle.pg_table.specs.Panels.{panelled, with_span_crossings, with_title, with_title_at, with_title_color}
 use Rattle.pg_table.specs.Natural.{natural_sizes}
 use Rattle.pg_table.specs.Printing.{Parts, sizes_fault, with_header_line}
 use Rattle.pg_table.specs.declared.fault.TableFault.{TableFault}
@@ -79,6 +80,11 @@ titled r side title text t = record t { config = with_title r side title (texts_
 -- the same where columns have these widths; and one over the line below the last row
 abbrev pub titled_at : {T : Type 0} → ℕ → AlignmentHorizontal → Text → List ℕ → Parts T → Parts T
 titled_at r side title widths t = record t { config = with_title_at r side title widths (length t.rows) (columns_of t.rows) t.config }
+
+-- such a title in a colour: its columns of the line get it
+abbrev pub titled_in : {T : Type 0} → Color → ℕ → AlignmentHorizontal → Text → List ℕ → Parts T → Parts T
+titled_in color r side title widths t =
+    titled_at r side title widths (record t { config = with_title_color r side (length (chars title)) color widths (length t.rows) (columns_of t.rows) t.config })
 
 abbrev pub captioned : {T : Type 0} → AlignmentHorizontal → Text → (T → Text) → Parts T → Parts T
 captioned side caption text t = titled (length t.rows) side caption text t

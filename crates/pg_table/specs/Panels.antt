@@ -15,8 +15,9 @@ use Rattle.pg_layout.specs.declared.borders.Borders.{Borders}
 use Rattle.pg_config.specs.Crossings.{span_crossing, with_crossings}
 use Rattle.std.specs.List.{range_with_len}
 use Rattle.pg_layout.specs.declared.alignment.AlignmentHorizontal.{AlignmentHorizontal}
+use Rattle.pg_layout.specs.Colors.{Color}
 use Rattle.pg_layout.specs.Text.{Text, width_of}
-use Rattle.pg_config.specs.LineGlyphs.{with_line_glyphs}
+use Rattle.pg_config.specs.LineGlyphs.{with_line_color, with_line_glyphs}
 use Rattle.pg_picture.specs.Pieces.{shares}
 use Rattle.pg_table.specs.Natural.{natural_sizes}
 use Rattle.pg_table.specs.declared.sizes.Axis.TheVariants.{Columns}
@@ -80,6 +81,11 @@ with_title_at r side title widths rows columns config = with_title_glyphs r side
 
 unfoldable pub with_title : ℕ → AlignmentHorizontal → Text → List (List Text) → ℕ → Config → Config
 with_title r side title texts columns config = with_title_at r side title (natural_sizes Columns config texts columns) (length texts) columns config
+
+-- this colour at the columns of a title of so many characters
+unfoldable pub with_title_color : ℕ → AlignmentHorizontal → ℕ → Color → List ℕ → ℕ → ℕ → Config → Config
+with_title_color r side count color widths rows columns config =
+    with_line_color r rows columns (λ c. slice_index_or widths c 0) (title_start side count (title_room config widths columns)) count color config
 
 -- ---- frames round cells, and lines between columns
 

@@ -2,16 +2,19 @@
 
 ghost use Rattle.std.specs.Prelude.{◌≡◌, ◌==◌, ◌&&◌, not, false, ℕ, List, [], map, chars, encode_utf8, length, Some, None, Err, OnOk, OnErr, IfOk, IsOk, if◌then◌else◌};
 ghost use Rattle.pg_layout.specs.declared.alignment.AlignmentHorizontal.{AlignmentHorizontal};
+ghost use Rattle.pg_layout.specs.Colors.{Color as Texts};
 ghost use Rattle.pg_layout.specs.Records.{columns_of};
+ghost use Rattle.pg_layout.specs.Terminal.{color_texts};
 ghost use Rattle.pg_layout.specs.Text.{width_of};
 ghost use Rattle.pg_config.specs.Config.{has_horizontal};
-ghost use Rattle.pg_table.specs.OwnRows.{captioned, own_sizes_fault, titled, titled_at};
-ghost use Rattle.pg_table.specs.Panels.{title_glyph, title_room, title_start, with_title_glyphs};
+ghost use Rattle.pg_table.specs.OwnRows.{captioned, own_sizes, own_sizes_fault, titled, titled_at, titled_in};
+ghost use Rattle.pg_table.specs.declared.sizes.Axis.TheVariants.{Columns};
+ghost use Rattle.pg_table.specs.Panels.{title_glyph, title_room, title_start, with_title_color, with_title_glyphs};
 
 use crate::fault::TableFault;
 use crate::table::Table;
 use pg_config::SpannedConfig;
-use pg_layout::{AlignmentHorizontal, ConstantDimension, get_line_width};
+use pg_layout::{ANSIBuf, AlignmentHorizontal, Color, ConstantDimension, get_line_width};
 use pg_picture::calculate_indent;
 use std::alloc::{AllocError, Allocator};
 use std::convert::AsStr;
@@ -62,6 +65,7 @@ impl<T: AsStr + Drop, A: Allocator + Copy> Table<T, A> {
     #[tactic(auto, using(crate::proofs::StraightTables::untitled_lines))]
     fn shows_title(&self, row: usize, title: &str) -> bool
         ensures same { result ≡ false → (side : AlignmentHorizontal) (widths : List ℕ) → titled_at row side title.now widths self.now ≡ self.now }
+        ensures colorless { result ≡ false → (side : AlignmentHorizontal) (color : Texts) (widths : List ℕ) → titled_in color row side title.now widths self.now ≡ self.now }
         ensures empty { title.now ≡ [] → result ≡ false }
         ensures absent { has_horizontal self.now.config row (length self.now.rows) ≡ false → result ≡ false }
     {
@@ -187,6 +191,90 @@ impl<T: AsStr + Drop, A: Allocator + Copy> Table<T, A> {
             Ok(()) => Ok(self),
             Err(fault) => Err(fault),
         }
+    }
+
+    /// Puts a title in this colour over row line `row` of a table by value ([`Table::set_title`]): its
+    /// columns of the line get the colour. After an error the table is dropped.
+    ///
+    /// ```text
+    /// let table = table.with_colored_title(alloc, 0, "Orders", AlignmentHorizontal::Left, Color::red())?;
+    /// ```
+    pub fn with_colored_title(
+        self,
+        alloc: A,
+        row: usize,
+        title: &str,
+        side: AlignmentHorizontal,
+        color: Color,
+    ) -> Result<Table<T, A>, TableFault>
+        ensures ok { IfOk result (λ table. table ≡ titled_in (color_texts color) row side title.now (own_sizes Columns T.text self) self) }
+        ensures fault { (fault : TableFault) → own_sizes_fault T.text self ≡ Some fault → result ≡ Err fault }
+        ensures memory { (fault : TableFault) → own_sizes_fault T.text self ≡ None → result ≡ Err fault → fault ≡ TableFault.Memory }
+        ensures empty { title.now ≡ [] → own_sizes_fault T.text self ≡ None → IsOk result }
+        ensures absent { has_horizontal self.config row (length self.rows) ≡ false → own_sizes_fault T.text self ≡ None → IsOk result }
+    {
+        if self.shows_title(row, title) {
+            let dimension = self.natural_dimension(alloc)?;
+            return Ok(self.with_colored_title_at(alloc, row, title, side, &dimension, color)?);
+        }
+        match self.sizes_fault() {
+            Some(fault) => Err(fault),
+            None => Ok(self),
+        }
+    }
+
+    /// Puts a title in this colour over row line `row` of a table by value where columns have these
+    /// widths ([`Table::set_title_at`]), such as those of a table within a width. After an error the
+    /// table is dropped.
+    ///
+    /// ```text
+    /// let sizes = table.within(alloc, 40, how)?.natural_dimension(alloc)?;
+    /// let side = AlignmentHorizontal::Left;
+    /// let table = table.with_colored_title_at(alloc, 0, "Orders", side, &sizes, Color::red())?;
+    /// ```
+    pub fn with_colored_title_at<B: Allocator>(
+        mut self,
+        alloc: A,
+        row: usize,
+        title: &str,
+        side: AlignmentHorizontal,
+        dimension: &ConstantDimension<B>,
+        color: Color,
+    ) -> Result<Table<T, A>, AllocError>
+        ensures ok { IfOk result (λ table. table ≡ titled_in (color_texts color) row side title.now dimension.now.0.items self) }
+        ensures empty { title.now ≡ [] → IsOk result }
+        ensures absent { has_horizontal self.config row (length self.rows) ≡ false → IsOk result }
+    {
+        let is_shown = self.shows_title(row, title);
+        if !is_shown {
+            return Ok(self);
+        }
+        let color = color.to_ansi(alloc)?;
+        let count = title.chars().count();
+        self.color_title(alloc, row, side, dimension, count, &color)?;
+        self.set_title_at(alloc, row, title, side, dimension)?;
+        Ok(self)
+    }
+
+    // Colours the columns of a title of so many characters over row line `row`.
+    #[tactic(auto, unfolding(crate::specs::Panels::with_title_color))]
+    fn color_title<B: Allocator>(
+        &mut self,
+        alloc: A,
+        row: usize,
+        side: AlignmentHorizontal,
+        dimension: &ConstantDimension<B>,
+        count: usize,
+        color: &ANSIBuf<A>,
+    ) -> Result<(), AllocError>
+        ensures ok { OnOk result (self.new ≡ record self.old {
+          config = with_title_color row side count color.now dimension.now.0.items (length self.old.rows) (columns_of self.old.rows) self.old.config;
+        }) }
+        ensures err { OnErr result (self.new ≡ self.old) }
+    {
+        let (rows, columns) = self.size();
+        let start = title_start(&self.config, columns, &dimension.0, side, count);
+        self.config.set_line_color(alloc, row, (rows, columns), dimension, start, count, color)
     }
 }
 
