@@ -10,7 +10,7 @@ use Rattle.pg_layout.specs.Position.{at}
 use Rattle.pg_layout.specs.Records.{cell_of, text_at, with_cell}
 use Rattle.pg_layout.specs.Text.{Text}
 use Rattle.pg_config.specs.Config.{Config, get_padding}
-use Rattle.pg_config.specs.LineGlyphs.{line_place, with_line_glyphs}
+use Rattle.pg_config.specs.LineGlyphs.{line_place, with_line_color, with_line_glyphs}
 use Rattle.pg_config.specs.Overrides.{with_row_line}
 use Rattle.pg_config.specs.Settings.{with_setting}
 use Rattle.pg_fit.specs.Escapes.{without_escapes}
@@ -27,8 +27,8 @@ use Rattle.pg_table.specs.Fitted.{least_column_width, least_width_at}
 use Rattle.pg_table.specs.Markup.{html_text, html_cell, html_row, html_table, escaped_text, delimiter_row, markdown_cell, markdown_row, markdown_table}
 use Rattle.pg_table.specs.Natural.{lacking as lacks, widening, widened, size_of_singles, natural_size, natural_sizes}
 use Rattle.pg_table.specs.Numbers.{is_number, lacking}
-use Rattle.pg_table.specs.OwnRows.{transposed, padded, with_panel_row, spaced_config, titled, titled_at, captioned, numbered, widened_right, longest_rest, aligned, merged}
-use Rattle.pg_table.specs.Panels.{with_title_at, with_title, ruled, frame_round, frame_horizontal, frame_vertical, frame_crossing, column_vertical, column_crossing}
+use Rattle.pg_table.specs.OwnRows.{transposed, padded, with_panel_row, spaced_config, titled, titled_at, titled_in, captioned, numbered, widened_right, longest_rest, aligned, merged}
+use Rattle.pg_table.specs.Panels.{with_title_at, with_title, with_title_color, ruled, frame_round, frame_horizontal, frame_vertical, frame_crossing, column_vertical, column_crossing}
 use Rattle.pg_table.specs.Printing.{Parts, printed_table}
 use Rattle.pg_table.specs.Ranges.{ranged_widths}
 use Rattle.pg_table.specs.declared.overflow.Overflow.TheVariants.{Wrap}
@@ -36,7 +36,7 @@ use Rattle.pg_laws.specs.Samples.{color_r}
 use Rattle.unicode_segmentation.proofs.Computing.{unicode_segmentation}
 
 unfoldable table_words : Unit {0}
-unfolding grid_words lacks widening widened size_of_singles natural_size natural_sizes is_number with_row_line line_place with_line_glyphs with_title_at with_title html_text html_cell html_row escaped_text delimiter_row markdown_cell markdown_row without_escapes
+unfolding grid_words lacks widening widened size_of_singles natural_size natural_sizes is_number with_row_line line_place with_line_color with_line_glyphs with_title_at with_title with_title_color html_text html_cell html_row escaped_text delimiter_row markdown_cell markdown_row without_escapes
 table_words = tt
 
 -- and what lets it compute the widths of columns within a total
@@ -234,6 +234,17 @@ a_title_in_the_middle = refl
 a_caption_at_the_right : drawn (captioned across.Right (codes "ok") itself boxed) ≡ joined (codes "+---+" ∷ codes "|abc|" ∷ codes "+-ok+" ∷ [])
 unfolding table_words
 a_caption_at_the_right = refl
+
+-- the colour lies over each character, also over the crossing, and not over the last one, which is cut
+a_cut_title_in_a_colour : drawn (titled_in color_r 0 across.Left (codes "Hey!") (1 ∷ 1 ∷ []) (with_rows bordered ((codes "a" ∷ codes "b" ∷ []) ∷ [])))
+    ≡ joined (codes "+<r>H</r><r>e</r><r>y</r>+" ∷ codes "|a|b|" ∷ codes "+-+-+" ∷ [])
+unfolding table_words
+a_cut_title_in_a_colour = refl
+
+-- beside the title the line has no colour
+a_caption_in_a_colour_at_the_right : drawn (titled_in color_r 1 across.Right (codes "ok") (3 ∷ []) boxed) ≡ joined (codes "+---+" ∷ codes "|abc|" ∷ codes "+-<r>o</r><r>k</r>+" ∷ [])
+unfolding table_words
+a_caption_in_a_colour_at_the_right = refl
 
 -- ---- colours
 
