@@ -109,21 +109,46 @@ pub(crate) mod drawing;
 pub(crate) mod refusal;
 mod sizes;
 
-/// A way to draw the table of a section.
+/// What is set for a way to draw a table.
 #[derive(Drop)]
-pub(crate) struct TableWay<'a> {
-    /// The number of the line at which it begins.
-    pub(crate) line: usize,
+pub(crate) struct Settings {
     /// The settings of all but the compact grid and the builder that was called.
     pub(crate) config: SpannedConfig,
     /// The settings of the compact grid.
     pub(crate) compact: CompactConfig,
     /// The colours of cells.
     pub(crate) colors: ColorsMap,
-    /// The grids that draw it, where a line names them.
-    pub(crate) grids: Vec<Grid>,
     /// The builder that was called.
     pub(crate) table: Option<Table<String>>,
+}
+
+impl Settings {
+    // Nothing is set.
+    fn new(alloc: Global) -> Settings {
+        Settings {
+            config: SpannedConfig::new(alloc),
+            compact: CompactConfig::new(),
+            colors: ColorsMap::new(alloc),
+            table: None,
+        }
+    }
+
+    // Sets a part of the compact grid's configuration.
+    fn set_compact(&mut self, line: &str) -> Result<(), LineFault> {
+        self.compact = with_compact_setting(self.compact, line)?;
+        Ok(())
+    }
+}
+
+/// A way to draw the table of a section.
+#[derive(Drop)]
+pub(crate) struct TableWay<'a> {
+    /// The number of the line at which it begins.
+    pub(crate) line: usize,
+    /// What is set. Its box keeps its parts out of the proofs of functions that use the others alone.
+    pub(crate) settings: Box<Settings>,
+    /// The grids that draw it, where a line names them.
+    pub(crate) grids: Vec<Grid>,
     /// The width within which the table is drawn, where a line has it.
     pub(crate) within: Option<Within<'a>>,
     /// The greatest widths of its first columns.
@@ -140,27 +165,19 @@ pub(crate) struct TableWay<'a> {
 
 impl<'a> TableWay<'a> {
     // Nothing is set.
-    fn new(alloc: Global, line: usize) -> TableWay<'a> {
-        TableWay {
+    fn new(alloc: Global, line: usize) -> Result<TableWay<'a>, AllocError> {
+        let settings = Box::new(alloc, Settings::new(alloc))?;
+        Ok(TableWay {
             line,
-            config: SpannedConfig::new(alloc),
-            compact: CompactConfig::new(),
-            colors: ColorsMap::new(alloc),
+            settings,
             grids: Vec::new(alloc),
-            table: None,
             within: None,
             limits: Vec::new(alloc),
             least: None,
             is_unchanged: false,
             is_answered: false,
             is_spanned: false,
-        }
-    }
-
-    // Sets a part of the compact grid's configuration.
-    fn set_compact(&mut self, line: &str) -> Result<(), LineFault> {
-        self.compact = with_compact_setting(self.compact, line)?;
-        Ok(())
+        })
     }
 }
 
@@ -185,7 +202,7 @@ pub(crate) struct TableCase<'a> {
     /// Whether it is that of a table that has all memory.
     pub(crate) has_memory: bool,
     /// How the table is drawn.
-    pub(crate) way: Box<TableWay<'a>>,
+    pub(crate) way: TableWay<'a>,
 }
 
 impl<'a> TableCase<'a> {
@@ -195,7 +212,7 @@ impl<'a> TableCase<'a> {
         section: &'a str,
         line: usize,
     ) -> Result<TableCase<'a>, AllocError> {
-        let way = Box::new(alloc, TableWay::new(alloc, line))?;
+        let way = TableWay::new(alloc, line)?;
         Ok(TableCase {
             alloc,
             section,
@@ -273,14 +290,13 @@ impl<'a> TableCase<'a> {
 
     // Takes a setting, or the colour of a cell.
     fn push_setting(&mut self, word: &str, rest: &str, line: &str) -> Result<(), CaseFault> {
-        let way = &mut *self.way;
+        self.way.is_spanned = self.way.is_spanned || word.ends_with("_span");
+        let alloc = self.alloc;
+        let settings = &mut *self.way.settings;
         let set = match word {
-            "color" => set_cell_color(&mut way.colors, self.alloc, rest),
-            "compact" => way.set_compact(rest),
-            _ => {
-                way.is_spanned = way.is_spanned || word.ends_with("_span");
-                apply(&mut way.config, self.alloc, line)
-            }
+            "color" => set_cell_color(&mut settings.colors, alloc, rest),
+            "compact" => settings.set_compact(rest),
+            _ => apply(&mut settings.config, alloc, line),
         };
         set.map_err(CaseFault::from)
     }
@@ -330,11 +346,11 @@ impl<'a> Case<'a> for TableCase<'a> {
             _ if self.section.is_empty() => Err(CaseFault::Unknown),
             Line::Way => {
                 self.draw(report);
-                let way = Box::new(self.alloc, TableWay::new(self.alloc, number))?;
+                let way = TableWay::new(self.alloc, number)?;
                 drop(mem::replace(&mut self.way, way));
                 Ok(())
             }
-            Line::Row(row) if self.way.table.is_none() => self.push_row(row),
+            Line::Row(row) if self.way.settings.table.is_none() => self.push_row(row),
             Line::Row(_) => Err(CaseFault::Unknown),
             Line::Words(line) => self.push_word(line, report),
         }

@@ -24,7 +24,7 @@ impl<'a> TableCase<'a> {
         let (name, rest) = text.split_once(' ').unwrap_or((text, ""));
         let call = BuilderCall::of(name, rest)?;
         self.refuse(call, report)?;
-        let table = match self.way.table.take() {
+        let table = match self.way.settings.table.take() {
             Some(table) => table,
             None => self.new_table()?,
         };
@@ -33,7 +33,7 @@ impl<'a> TableCase<'a> {
         } else {
             self.with(table, call)
         };
-        self.way.table = Some(called?);
+        self.way.settings.table = Some(called?);
         Ok(())
     }
 
@@ -62,12 +62,15 @@ impl<'a> TableCase<'a> {
 
     /// The settings of the lines since the last call.
     pub(crate) fn take_config(&mut self) -> SpannedConfig {
-        mem::replace(&mut self.way.config, SpannedConfig::new(self.alloc))
+        mem::replace(
+            &mut self.way.settings.config,
+            SpannedConfig::new(self.alloc),
+        )
     }
 
     /// The colours of the lines since the last call.
     pub(crate) fn take_colors(&mut self) -> ColorsMap {
-        mem::replace(&mut self.way.colors, ColorsMap::new(self.alloc))
+        mem::replace(&mut self.way.settings.colors, ColorsMap::new(self.alloc))
     }
 
     /// A table of the rows without a call, which owns its texts.

@@ -30,8 +30,8 @@ pub(crate) enum Drawer<'r> {
 pub(crate) enum Builder<'r> {
     /// It is lent the rows.
     Lent(&'r VecRecords<String>),
-    /// It has rows and settings of its own.
-    Owned(&'r Table<String>),
+    /// It has rows and settings of its own. Its box keeps its parts out of the proofs of calls that only pass it on.
+    Owned(&'r Box<Table<String>>),
 }
 
 impl Drawer<'_> {
@@ -87,13 +87,13 @@ impl<A: Allocator> GridCall for Text<A> {
 impl TableCase<'_> {
     // The table at the sizes that the lines give.
     fn sized<'c>(&'c self, records: &'c VecRecords<String>) -> SizedTable<'c, ColorsMap> {
-        let way = &*self.way;
+        let settings = &*self.way.settings;
         SizedTable {
             records,
-            config: &way.config,
-            compact: &way.compact,
+            config: &settings.config,
+            compact: &settings.compact,
             dimension: &self.dimension,
-            colors: &way.colors,
+            colors: &settings.colors,
         }
     }
 
@@ -216,7 +216,7 @@ impl TableCase<'_> {
         records: &VecRecords<String>,
         report: &mut Report,
     ) -> Result<(), CaseFault> {
-        let table = match self.way.table.take() {
+        let table = match self.way.settings.table.take() {
             Some(table) => table,
             None => {
                 self.draw_by(Drawer::Natural(Builder::Lent(records)), report)?;
@@ -224,6 +224,7 @@ impl TableCase<'_> {
                 self.new_table()?.with_config(config).with_colors(colors)
             }
         };
+        let table = Box::new(self.alloc, table)?;
         self.draw_by(Drawer::Natural(Builder::Owned(&table)), report)
     }
 

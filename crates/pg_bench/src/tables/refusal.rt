@@ -201,7 +201,7 @@ impl RefusedTable<'_, '_> {
         };
         let printed = self.case.print(memory, self.drawer, &mut buf);
         match buf.as_str().strip_prefix(OLD) {
-            Some(gained) => self.judged(memory, printed.err(), gained),
+            Some(gained) => judged(self.picture, memory, printed.err(), gained),
             None => Outcome::Wrong,
         }
     }
@@ -209,19 +209,8 @@ impl RefusedTable<'_, '_> {
     // Asks for a text of the table: where memory is refused there is none.
     fn given(&self, memory: &Refusing<Global>) -> Outcome {
         match self.case.text(memory, self.drawer) {
-            Ok(text) => self.judged(memory, None, text.as_str()),
-            Err(fault) => self.judged(memory, Some(fault), ""),
-        }
-    }
-
-    // How a call ends that returns this, and leaves this text. Of an empty picture any beginning is all.
-    fn judged(&self, memory: &Refusing<Global>, refusal: Option<Refusal>, text: &str) -> Outcome {
-        let is_whole = text == self.picture;
-        let is_begun = self.picture.starts_with(text) && (!is_whole || text.is_empty());
-        match (refusal, memory.has_refused()) {
-            (None, false) if is_whole => Outcome::Whole,
-            (Some(Refusal::Memory), true) if is_begun => Outcome::Failed,
-            _ => Outcome::Wrong,
+            Ok(text) => judged(self.picture, memory, None, text.as_str()),
+            Err(fault) => judged(self.picture, memory, Some(fault), ""),
         }
     }
 
@@ -274,6 +263,22 @@ impl RefusedTable<'_, '_> {
         } else {
             Outcome::Wrong
         }
+    }
+}
+
+// How a call ends that returns this, and leaves this text of the picture. Of an empty picture any beginning is all.
+fn judged(
+    picture: &str,
+    memory: &Refusing<Global>,
+    refusal: Option<Refusal>,
+    text: &str,
+) -> Outcome {
+    let is_whole = text == picture;
+    let is_begun = picture.starts_with(text) && (!is_whole || text.is_empty());
+    match (refusal, memory.has_refused()) {
+        (None, false) if is_whole => Outcome::Whole,
+        (Some(Refusal::Memory), true) if is_begun => Outcome::Failed,
+        _ => Outcome::Wrong,
     }
 }
 

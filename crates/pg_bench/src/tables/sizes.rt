@@ -139,7 +139,8 @@ impl<'a> TableCase<'a> {
         &'c self,
         records: &'c VecRecords<String>,
     ) -> NaturalTable<'c, &'c VecRecords<String>, ColorsMap> {
-        NaturalTable::new(records, &self.way.config, &self.way.colors)
+        let settings = &*self.way.settings;
+        NaturalTable::new(records, &settings.config, &settings.colors)
     }
 
     // The table within a width.
