@@ -513,14 +513,21 @@ class Sheet:
     def least_widths(self, how):
         return self.across(lambda r, c: self.beside(r, c) + min(self.widest(r, c, self.rows[r][c]), how.least(self.rows[r][c])))
 
+    def ranged(self, total, ranges, how):
+        """The widths of columns within a total, where the first ones have a least and a greatest width."""
+        found = []
+        for k, (natural, low) in enumerate(zip(self.natural_widths(), self.least_widths(how))):
+            least, most = ranges[k] if k < len(ranges) else (0, NO_LIMIT)
+            least = max(low, min(least, natural))
+            found.append((least, max(least, min(natural, most))))
+        return narrowed(max(0, total - self.taken_beside(len(found))), found)
+
     def narrowed(self, total, limits, how):
         """The natural widths of columns, if they are within the total and the limits of the first ones, else narrowed ones."""
-        natural, low = self.natural_widths(), self.least_widths(how)
+        natural = self.natural_widths()
         if self.full_width(natural) <= total and all(map(int.__le__, natural, limits)):
             return natural
-        bound = [limits[k] if k < len(limits) else NO_LIMIT for k in range(len(natural))]
-        room = max(0, total - self.taken_beside(len(natural)))
-        return narrowed(room, [(least, max(least, min(size, most))) for least, size, most in zip(low, natural, bound)])
+        return self.ranged(total, [(0, limit) for limit in limits], how)
 
     def fitted(self, total, limits, how):
         """The texts and the sizes of the table within a width."""

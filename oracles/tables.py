@@ -20,7 +20,7 @@ import time
 from pathlib import Path
 
 import fitting
-from fitting import COLUMN_LINES, FRAME, INNER_LINE, LAST_LINE, LOOKS, TOP_LINE, Sheet, ends, has_any, holds, shares
+from fitting import COLUMN_LINES, FRAME, INNER_LINE, LAST_LINE, LOOKS, NO_LIMIT, TOP_LINE, Sheet, ends, has_any, holds, shares
 
 TOP = Path(__file__).resolve().parent.parent
 BATCH = 500
@@ -394,6 +394,19 @@ def colors():
     return sheet.print()
 
 
+def columns():
+    """Columns with ranges of widths, some of which are never narrowed."""
+    sheet, how, total = random_sheet(Calls.rules), random_how(), random.randrange(40)
+    if random.random() < 0.3:
+        sheet.spread()
+    whole = (NO_LIMIT, NO_LIMIT)
+    ranges = [random.choice([whole, (random.randrange(12), random.randrange(15))]) for _ in range(random.randrange(sheet.count()[1] + 2))]
+    sheet.say("columns", total, ",".join(f"{least}-{most}" for least, most in ranges) or "none", how.words)
+    fits = all(sheet.count()) and sheet.spans_fit()
+    sheet.expected = sheet.within(NO_LIMIT, how, sheet.ranged(total, ranges, how) if fits else ())
+    return sheet
+
+
 FIGURES = ["", " ", "1", "-2.50", "1,000", "+.5", "3e8", "1.e2", "−7%", "12.125%", ",1", "1.2.3", "e5", "٣", "x", "5.", "1e", "%", "1,,2e+3%"]
 
 
@@ -533,6 +546,7 @@ def html():
 SUBJECTS = {
     "within": within,
     "filled": filled,
+    "columns": columns,
     "panels": lambda: random_sheet(Calls.spread, Calls.panel, Calls.rules, Calls.panel, Calls.cross).print(),
     "lines": lambda: random_sheet(Calls.rules, Calls.column_rule, Calls.rules, Calls.column_rule).print(),
     "frames": lambda: random_sheet(Calls.rules, Calls.frame, Calls.frame, Calls.column_rule, Calls.frame).print(),
