@@ -249,8 +249,8 @@ pub(crate) fn unstreamed(found: &ArgMatches, source: &Source) -> Option<&'static
     if found.get_str("query").is_some() {
         return Some("--query needs all rows, so it can't be streamed");
     }
-    if matches!(source, Source::Database { .. }) {
-        return Some("a database can't be streamed");
+    if matches!(source, Source::Database { .. }) && found.get_str("table").is_none() {
+        return Some("the list of tables can't be streamed; --table can");
     }
     if is_padded(found) {
         return Some("--ragged pad needs all rows, so it can't be streamed; --ragged cut can");

@@ -1,2 +1,2 @@
-mod Floats
+pub mod Reading
 mod Tabling

@@ -1,10 +1,12 @@
--- What has been read of one part, and then of the next, has been read of both; the steps of a tree; the rows of a table; and why it isn't shown.
-use Rattle.std.proofs.Common.{◌≡◌, ◌<◌, ◌∙◌, ◌+◌, ◌++◌, ◌∷◌, ℕ, List, [], map, take, drop, get_or, length, Option, Some, None, Result, Ok, Err, inl, inr, refl, sym, ap, ap₂, subst, zero-add}
-use Rattle.std.proofs.Common.{add-zero, add_assoc, append_assoc, arith, ◌-◌, suc, zero, ◌≤◌, Bool, true, false}
+-- What has been read of one part, and then of the next, has been read of both; the steps of a tree; the rows of a table; why it isn't shown; and the digits of floats.
+use Rattle.std.proofs.Common.{◌≡◌, ◌<◌, ◌∙◌, ◌+◌, ◌++◌, ◌∷◌, ℕ, List, [], map, take, drop, get_or, length, Option, Some, None, Result, Ok, Err, inl, inr, refl, sym, ap, ap₂, subst}
+use Rattle.std.proofs.Common.{zero-add, add-zero, add_assoc, append_assoc, arith, ◌-◌, suc, zero, ◌≤◌, Bool, true, false, ◌*◌, ◌/◌, ◌^◌, ◌%◌, pow-suc}
 use Rattle.std.specs.List.{flat_map, range_with_len}
 use Rattle.std.proofs.lemmas.List.{map-append, append-nil, map_more}
-use Rattle.ruled_database.specs.Trees.{Read, all, both, given, joined, damaged, one_page, where_some, Gives, GivesPage, Stored, chain, record_of}
-use Rattle.ruled_database.specs.Trees.{LacksRow, Step, a_page, first_of, own_row, page_at, row_step, rows_at, rows_below, rows_from, rows_of_cell, rows_of_child, sound_rows, steps_in, steps_of, steps_of_all, stored_of, with_row}
+use Rattle.ruled_database.specs.Listings.{LacksRow, row_step, steps_of, steps_of_all, with_row, Entry, HasWrongEntry, IsListed, IsWrongEntry, LacksDefinition, LacksEntries, LacksEntry}
+use Rattle.ruled_database.specs.Listings.{LacksListing, LacksRows, LacksSchema, LacksTable, definition_with, entry_in, fields_of_entry}
+use Rattle.ruled_database.specs.Trees.{Read, all, both, given, joined, damaged, one_page, where_some, Gives, GivesPage, Stored, chain, record_of, Step, a_page, first_of, own_row, page_at}
+use Rattle.ruled_database.specs.Trees.{rows_at, rows_below, rows_from, rows_of_cell, rows_of_child, sound_rows, steps_in, TreePage, cell_at, page, page_count, page_of}
 use Rattle.ruled_database.specs.declared.tree.StoredRow.{StoredRow}
 use Rattle.ruled_database.specs.declared.tree.Level.{Level}
 use Rattle.ruled_database.specs.declared.fault.TableFault.{TableFault}
@@ -12,12 +14,11 @@ use Rattle.ruled_database.specs.declared.fault.TableFault.TheVariants.{Damage, D
 use Rattle.std.proofs.Math.Dec.{leb-suc-suc}
 use Rattle.std.proofs.Math.Numerals.{add-one}
 use Rattle.std.proofs.lemmas.Bool.Decides.{nat_tests}
-use Rattle.std.specs.Prelude.{◌==◌, if◌then◌else◌, slice_index_or, nat_le, All, Any, IfErr}
+use Rattle.std.specs.Prelude.{◌==◌, if◌then◌else◌, slice_index_or, nat_le, All, Any, IfErr, List, [], ◌∷◌, ◌++◌, nat_lt, to_bits}
 use Rattle.std.specs.Result.{IsErrAnd}
 use Rattle.sqlite_format.specs.Bytes.{u32_at}
 use Rattle.sqlite_format.specs.Page.{cell_count, right_child}
 use Rattle.sqlite_format.specs.declared.kind.Tree.{Tree}
-use Rattle.ruled_database.specs.Files.{TreePage, cell_at, page, page_count, page_of}
 use Rattle.sqlite_format.specs.Cell.{cell_child}
 use Rattle.std.specs.Option.{option_and_then}
 use Rattle.sqlite_record.specs.Affinity.{widen}
@@ -25,11 +26,13 @@ use Rattle.sqlite_value.specs.Order.{Row}
 use Rattle.csv.specs.Records.{AllText}
 use Rattle.ruled_database.specs.Tables.{LacksTexts, AddsRows, GivesRow, HasWrongText, IsOld, IsUnsound, row_in, shown_row, shown_rows_of, texts_in, tree_rows, values_of, names_in}
 use Rattle.ruled_database.specs.declared.definition.Definition.{Definition}
-use Rattle.ruled_database.specs.Listings.{Entry, HasWrongEntry, IsListed, IsWrongEntry, LacksDefinition, LacksEntries, LacksEntry, LacksListing, LacksRows, LacksSchema, LacksTable}
-use Rattle.ruled_database.specs.Listings.{definition_with, entry_in, fields_of_entry}
 use Rattle.ruled_database.specs.declared.fault.DatabaseFault.{DatabaseFault}
 use Rattle.ruled_database.specs.declared.fault.DatabaseFault.TheVariants.{Database, Encoding as UnknownEncoding, Schema, Absent, Elsewhere, Keyed, Computed, Table}
 use Rattle.ruled_database.specs.declared.fault.TableFault.TheVariants as row
+use Rattle.std.proofs.Math.Nat.{div-div-eq-div-mul}
+use Rattle.std.specs.Float.{Float, binary64}
+use Rattle.std.specs.Fmt.{decimal}
+use Rattle.sqlite_sql.specs.Spelling as spec
 
 -- ---- what has been read of one part, and then of the next, has been read of both
 
@@ -462,7 +465,7 @@ lacks_added U limit file root definition old new (Err fault) found told adds =
     lacks_rows U limit file root definition definition old new fault refl (subst (λ (f : TableFault). AddsRows {U = U} limit file root definition old new (Err f)) (sym told) adds)
 
 -- names of columns that aren't shown
-lacks_named : (limit : Option ℕ) (file : List ℕ) (root : ℕ) (definition : Definition) (fault : TableFault) → LacksTexts 0 (names_in definition.columns) fault → LacksRows limit file root definition fault
+pub lacks_named : (limit : Option ℕ) (file : List ℕ) (root : ℕ) (definition : Definition) (fault : TableFault) → LacksTexts 0 (names_in definition.columns) fault → LacksRows limit file root definition fault
 lacks_named limit file root definition row.Damage lacks = absurd lacks
 lacks_named limit file root definition row.Default lacks = absurd lacks
 lacks_named limit file root definition (row.Encoding at) lacks = inl lacks
@@ -541,3 +544,41 @@ lacks_read file (Table fault) lacks = lacks
 pub lacks_schema : {V : Type 0} (file bytes : List ℕ) (result : Result V DatabaseFault) (found : DatabaseFault) → IsErrAnd result (λ fault. fault ≡ found) → file ≡ bytes → LacksSchema file found → IfErr result (LacksListing bytes)
 lacks_schema file bytes (Ok x) found told is lacks = absurd told
 lacks_schema file bytes (Err fault) found told is lacks = subst (λ (f : List ℕ). LacksListing f fault) is (lacks_read file fault (subst (LacksSchema file) (sym told) lacks))
+
+ten_times : (count k : ℕ) → 0 < k → k ≤ count → 10 ^ (count - k) * 10 ≡ 10 ^ (count - (k - 1))
+ten_times count k some within =
+    let more : count - (k - 1) ≡ suc (count - k) = omega arith in
+    omega (arith, pow-suc 10 (count - k), ap (λ (m : ℕ). 10 ^ m) more)
+
+-- one digit less
+pub front_less : (number k : ℕ) → 0 < k → k ≤ spec.count number → spec.front number k / 10 ≡ spec.front number (k - 1)
+front_less number k some within = div-div-eq-div-mul number (10 ^ (spec.count number - k)) 10 ∙ ap (λ (p : ℕ). number / p) (ten_times (spec.count number) k some within)
+
+digit_of : (number at front : ℕ) → front ≡ spec.front number (suc at) → spec.digit number at ≡ front % 10
+digit_of number at front is =
+    let next : at + 1 ≡ suc at = omega arith in
+    ap (λ (k : ℕ). spec.front number k % 10) next ∙ ap (λ (f : ℕ). f % 10) (sym is)
+
+-- a run that goes on to the left, or begins
+pub run_more : (number of start front : ℕ) → 0 < start → front ≡ spec.front number start → front % 10 ≡ of → spec.run_from number of (start - 1) ≡ spec.run_from number of start
+run_more number of zero front some is same = absurd (omega (arith, some))
+run_more number of (suc at) front some is same =
+    let digit : spec.digit number at ≡ of = digit_of number at front is ∙ same in grind (arith, nat_tests)
+
+pub run_ends : (number of start front : ℕ) → 0 < start → front ≡ spec.front number start → (front % 10 ≡ of → ⊥) → start ≡ spec.run_from number of start
+run_ends number of zero front some is other = absurd (omega (arith, some))
+run_ends number of (suc at) front some is other = let digit : spec.digit number at ≡ front % 10 = digit_of number at front is in grind (arith, nat_tests)
+
+-- a positive float that is written without an exponent
+pub sized : (bits number point : ℕ) → bits < 2047 * 2 ^ 52 → 17 < spec.count (spec.digits bits)
+    → number ≡ spec.front (spec.digits bits) (spec.kept bits) + (if nat_le 5 (spec.digit (spec.digits bits) (spec.kept bits)) then 1 else 0)
+    → point ≡ spec.count number + (spec.count (spec.digits bits) - spec.kept bits) + 742 - spec.row bits → 397 ≤ point → point ≤ 417
+    → spec.size bits ≡ spec.with_point (decimal (spec.without_zeros 20 number)) point
+unfolding spec.size spec.finite spec.rounded
+sized bits number point finite enough is at least most = grind (arith, nat_tests, finite, enough, is, at, least, most)
+
+-- a float that is written so, with its sign
+pub spelled_plain : (x : Float) (bits : ℕ) (text : List ℕ) → bits ≡ to_bits binary64 x → 0 < bits % 2 ^ 63 → spec.size (bits % 2 ^ 63) ≡ text
+    → (if nat_lt bits (2 ^ 63) then [] else 45 ∷ []) ++ text ≡ spec.spelled x
+unfolding spec.spelled
+spelled_plain x bits text is some sized = grind (arith, nat_tests, is, some, sized)

@@ -1,12 +1,13 @@
--- The tables that a database lists, the rows of one, and the words for why there are none.
-use Rattle.std.specs.Prelude.{◌≡◌, ◌≢◌, ◌⊎◌, ⊤, ℕ, ◌^◌, ◌==◌, nat_lt, true, false, List, [], ◌∷◌, ◌++◌, codes, bytes_eq, unsigned_abs, Option, Some, None, option_map, if◌then◌else◌, decimal}
+-- The tables that a database lists, the rows of one, at once and one after another, and the words for why there are none.
+use Rattle.std.specs.Prelude.{◌≡◌, ◌≢◌, ◌⊎◌, ⊤, ℕ, ◌^◌, ◌==◌, nat_lt, true, false, List, [], ◌∷◌, ◌++◌, codes, bytes_eq, unsigned_abs, Option, Some, None, option_map, if◌then◌else◌}
+use Rattle.std.specs.Prelude.{decimal, ◌≤◌, ◌-◌, ◌+◌, length, All, Bool, Result, Ok, Err}
 use Rattle.std.specs.Option.{option_and_then, option_or, unwrap_or}
 use Rattle.std.specs.Str.{str_eq_ignore_ascii_case}
 use Rattle.csv.specs.Records.{AllText, field_at}
 use Rattle.sqlite_sql.specs.Numeral.{int_at_front}
 use Rattle.ruled_database.specs.Definitions.{definition_of}
-use Rattle.ruled_database.specs.Files.{has_header, has_encoding}
-use Rattle.ruled_database.specs.Tables.{AreRows, HasRow, IsDamaged, IsFirstWrong, IsOld, names_in, tree_rows}
+use Rattle.ruled_database.specs.Trees.{has_header, has_encoding, Gives, Step, Stored, a_row, first_of, page_count, page_of, rows_below, rows_from, sound_rows}
+use Rattle.ruled_database.specs.Tables.{AreRows, HasRow, IsDamaged, IsFirstWrong, IsOld, names_in, tree_rows, HasWrongText, shown_rows_of}
 use Rattle.ruled_database.specs.declared.definition.Column.{Column}
 use Rattle.ruled_database.specs.declared.definition.Definition.{Definition}
 use Rattle.ruled_database.specs.declared.fault.DatabaseFault.{DatabaseFault}
@@ -16,6 +17,11 @@ use Rattle.ruled_database.specs.declared.fault.TableFault.TheVariants as row
 use Rattle.ruled_database.specs.declared.schema.ItemKind.{ItemKind}
 use Rattle.ruled_database.specs.declared.schema.ItemKind.TheVariants as kind
 use Rattle.ruled_database.specs.declared.schema.Listed.{Listed}
+use Rattle.sqlite_format.specs.declared.kind.Tree.{Tree}
+use Rattle.ruled_database.specs.declared.table.TableReader.{TableReader}
+use Rattle.ruled_database.specs.declared.tree.Cursor.{Cursor}
+use Rattle.ruled_database.specs.declared.tree.Level.{Level}
+use Rattle.ruled_database.specs.declared.tree.StoredRow.{StoredRow}
 
 abbrev pub Text : Type 0
 Text = List ℕ
@@ -274,3 +280,95 @@ database_fault_text Elsewhere = codes "a view or a virtual table, which stores n
 database_fault_text Keyed = codes "its primary key isn't supported"
 database_fault_text Computed = codes "a column that is computed isn't supported"
 database_fault_text (Table fault) = table_fault_text fault
+
+-- ---- the rows that a cursor has still to give
+
+abbrev pub stored_of : StoredRow → Stored
+stored_of row = record { key = row.key; local = row.payload.local.now; spilled = row.payload.spilled; overflow = row.payload.overflow }
+
+abbrev pub row_step : Option StoredRow → List Step
+row_step None = []
+row_step (Some row) = a_row (stored_of row) ∷ []
+
+-- those of a level
+abbrev pub steps_of : List ℕ → Tree → Level → List Step
+steps_of file tree level = row_step level.row ++ rows_from (rows_below file tree level.below) (page_of level.node) level.place
+
+-- those of the levels, of which the last is the deepest
+abbrev pub steps_of_all : List ℕ → Tree → List Level → List Step
+steps_of_all file tree [] = []
+steps_of_all file tree (level ∷ deeper) = steps_of_all file tree deeper ++ steps_of file tree level
+
+-- a part of a tree, and behind it all that is still to come
+abbrev pub rows_behind : List Step → Cursor → List Stored × Bool
+rows_behind steps cursor = sound_rows cursor.left (steps ++ steps_of_all cursor.file.bytes.now cursor.tree cursor.levels.items)
+
+abbrev pub rows_to_come : Cursor → List Stored × Bool
+rows_to_come cursor = first_of cursor.limit (rows_behind [] cursor)
+
+-- a row before others
+abbrev pub with_row : Option StoredRow → List Stored × Bool → List Stored × Bool
+with_row None rows = rows
+with_row (Some row) rows = (stored_of row ∷ rows.0, rows.1)
+
+-- why there is none
+abbrev pub LacksRow : List Stored × Bool → TableFault → Type 0
+LacksRow rows row.Damage = rows ≡ ([], false)
+LacksRow rows row.Default = ⊥
+LacksRow rows (row.Encoding at) = ⊥
+LacksRow rows row.Memory = ⊤
+
+-- ---- what a reader has given
+
+-- of the tree that begins at a page, these rows
+pub record HasGiven (file : List ℕ) (root : ℕ) (definition : Definition) (rows : List (List Text)) (reader : TableReader) : Type 0 where
+  pub declared : reader.definition ≡ definition
+  pub bytes : reader.reader.overflow.file.bytes.now ≡ file
+  pub taken : List Stored
+  pub walked : tree_rows None file definition.tree root ≡ (taken ++ (rows_to_come reader.stored).0, (rows_to_come reader.stored).1)
+  pub shown : Gives {U = ℕ} (shown_rows_of file definition taken) (page_count file) reader.reader.overflow.left [] rows (Ok 0)
+  pub texts : All (λ row. ¬ HasWrongText file definition row) taken
+  pub number : reader.given ≡ length rows + 1
+
+-- of an entry, the names of its columns
+abbrev pub HasOpened : List ℕ → Text → Entry → List Text → TableReader → Type 0
+HasOpened file null_text entry names reader =
+    (definition : Definition) × IsStored null_text entry definition × (names ≡ names_in definition.columns) × HasGiven file entry.root definition [] reader
+
+-- Of the table of a name, these rows, of which the names of the columns are the first. What a reader holds is no matter of a
+-- caller, who has this from `open_table` and `push_rows`.
+pub record HasRead (file name null_text : List ℕ) (rows : List (List Text)) (reader : TableReader) : Type 0 where
+  pub read : IsRead file
+  pub entry : Entry
+  pub listed : IsListed file name entry
+  pub definition : Definition
+  pub stored : IsStored null_text entry definition
+  pub texts : List (List Text)
+  pub given : HasGiven file entry.root definition texts reader
+  pub named : rows ≡ names_in definition.columns ∷ texts
+
+-- ---- the rows of a table, one after another
+
+module _ (file name null_text : List ℕ) where
+  -- these are its first ones, below the names of the columns
+  abbrev pub AreFirst : List (List Text) → Type 0
+  AreFirst rows = AreTable (Some (length rows - 1)) file name null_text rows
+
+  -- why the one behind these isn't shown
+  abbrev pub LacksNext : List (List Text) → TableFault → Type 0
+  LacksNext rows fault = LacksTable (Some (length rows)) file name null_text (Table fault)
+
+  -- these are all, or there is a fault: not even the first one is shown, or the one behind these isn't
+  abbrev pub AreRead : List (List Text) → Option DatabaseFault → Type 0
+  AreRead rows None = AreTable None file name null_text rows
+  AreRead rows (Some fault) = ((rows ≡ []) × LacksTable (Some 1) file name null_text fault) ⊎ (AreFirst rows × LacksTable (Some (length rows)) file name null_text fault)
+
+  -- behind the old rows stand the next ones, at most so many
+  abbrev pub AddsNext : ℕ → List (List Text) → List (List Text) → List (List Text) → List (List Text) → Type 0
+  AddsNext count given old new rows = (new ≡ old ++ rows) × (length rows ≤ count) × AreFirst (given ++ rows)
+
+  -- so many, or all, or those in front of the first bad one
+  abbrev pub PushesRows : ℕ → List (List Text) → List (List Text) → List (List Text) → TableReader → Result Bool TableFault → Type 0
+  PushesRows count given old new reader (Ok true) = (rows : List (List Text)) × AddsNext count given old new rows × (length rows ≡ count) × HasRead file name null_text (given ++ rows) reader
+  PushesRows count given old new reader (Ok false) = (rows : List (List Text)) × AddsNext count given old new rows × AreTable None file name null_text (given ++ rows)
+  PushesRows count given old new reader (Err fault) = (rows : List (List Text)) × AddsNext count given old new rows × LacksNext (given ++ rows) fault

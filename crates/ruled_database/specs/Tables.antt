@@ -21,8 +21,7 @@ use Rattle.sqlite_format.specs.Cell.{flip_sign}
 use Rattle.sqlite_format.specs.declared.kind.Tree.{Tree}
 use Rattle.sqlite_record.specs.Affinity.{as_real}
 use Rattle.sqlite_record.specs.Record.{decode}
-use Rattle.ruled_database.specs.Files.{page_count}
-use Rattle.ruled_database.specs.Trees.{Gives, Read, all, Stored, first_of, record_of, rows_below, sound_rows}
+use Rattle.ruled_database.specs.Trees.{page_count, Gives, Read, all, Stored, first_of, record_of, rows_below, sound_rows}
 use Rattle.ruled_database.specs.declared.definition.Column.{Column}
 use Rattle.ruled_database.specs.declared.definition.Definition.{Definition}
 use Rattle.ruled_database.specs.declared.definition.Shown.{Shown}

@@ -1,18 +1,89 @@
--- The rows of a tree, from left to right, and what reading them does.
-use Rattle.std.specs.Prelude.{ℕ, ⊤, ◌+◌, List, [], ◌∷◌, ◌++◌, Option, Some, None, Bool, zero, suc, ◌-◌, ◌==◌, true, false, length, map, take, drop, if◌then◌else◌, ◌≡◌, ◌<◌, ◌⊎◌, Result, Ok, Err, nat_le}
-use Rattle.std.specs.Option.{option_map_or, option_and_then}
-use Rattle.std.specs.List.{flat_map, range_with_len}
-use Rattle.sqlite_format.specs.Bytes.{u32_at}
-use Rattle.sqlite_format.specs.Cell.{body_key, cell_body, cell_child, first_overflow, local_part, spilled_len}
-use Rattle.sqlite_format.specs.Kinds.{holds_rows}
-use Rattle.sqlite_format.specs.Page.{cell_count, right_child}
+-- The pages of a database's file, as SQLite's file format has them, the rows of a tree of pages, from left to right, and what reading them does.
+use Rattle.std.specs.Prelude.{ℕ, true, false, ◌+◌, ◌-◌, ◌*◌, ◌/◌, ◌==◌, ◌&&◌, nat_eq, nat_lt, nat_le, Bool, List, [], ◌∷◌, ◌++◌, codes, length, take, drop, slice_index, slice_index_or, Option}
+use Rattle.std.specs.Prelude.{Some, None, if◌then◌else◌, zero, suc, ◌≡◌, ◌<◌, ◌⊎◌, Result, Ok, Err}
+use Rattle.std.specs.List.{starts_with, flat_map, range_with_len}
+use Rattle.sqlite_format.specs.Bytes.{u16_at, u32_at}
+use Rattle.sqlite_format.specs.Cell.{cell_size, body_key, cell_body, cell_child, first_overflow, local_part, spilled_len}
+use Rattle.sqlite_format.specs.Kinds.{flag_of, holds_rows}
+use Rattle.sqlite_format.specs.Page.{header_end, cell_count, cell_offset, right_child}
+use Rattle.sqlite_format.specs.declared.kind.Kind.{Kind}
 use Rattle.sqlite_format.specs.declared.kind.Tree.{Tree}
-use Rattle.ruled_database.specs.Files.{TreePage, cell_at, header_at, page, page_of, tree_page}
+use Rattle.sqlite_format.specs.declared.node.Node.{Node}
+use Rattle.std.specs.Option.{option_map_or, option_and_then}
 use Rattle.ruled_database.specs.declared.fault.TableFault.{TableFault}
 use Rattle.ruled_database.specs.declared.fault.TableFault.TheVariants.{Damage, Default, Encoding, Memory}
-use Rattle.ruled_database.specs.declared.tree.Cursor.{Cursor}
-use Rattle.ruled_database.specs.declared.tree.Level.{Level}
-use Rattle.ruled_database.specs.declared.tree.StoredRow.{StoredRow}
+
+-- ---- the file
+
+-- what a file begins with
+abbrev pub mark : List ℕ
+mark = codes "SQLite format 3" ++ 0 ∷ []
+
+-- how many bytes a page has
+abbrev pub bytes_of_page : List ℕ → ℕ
+bytes_of_page file = if u16_at file 16 == 1 then 65536 else u16_at file 16
+
+-- how many of them it uses
+abbrev pub usable_size : List ℕ → ℕ
+usable_size file = bytes_of_page file - slice_index file 20
+
+-- the bytes begin with the header of a database, whose pages have a size that the format allows
+unfoldable pub has_header : List ℕ → Bool
+has_header file = starts_with nat_eq file mark && nat_le 100 (length file) && nat_le 480 (usable_size file)
+
+-- it keeps a log beside it
+abbrev pub keeps_log : List ℕ → Bool
+keeps_log file = slice_index_or file 18 0 == 2
+
+-- its texts are in an encoding that the format has
+abbrev pub has_encoding : List ℕ → Bool
+has_encoding file = nat_le (u32_at file 56) 3
+
+-- how many whole pages a file has
+abbrev pub page_count : List ℕ → ℕ
+page_count file = length file / bytes_of_page file
+
+-- the file has all bytes of this page, of which the first one has the number 1
+abbrev pub has_page : List ℕ → ℕ → Bool
+has_page file number = nat_lt 0 number && nat_le (number * bytes_of_page file) (length file)
+
+-- the used bytes of a page
+unfoldable pub page : List ℕ → ℕ → Option (List ℕ)
+page file number = if has_page file number then Some (take (usable_size file) (drop ((number - 1) * bytes_of_page file) file)) else None
+
+-- ---- a page of a tree
+
+-- where its header begins: on page 1 behind that of the file
+abbrev pub header_at : ℕ → ℕ
+header_at number = if number == 1 then 100 else 0
+
+-- a page of a tree: its kind, its used bytes, and where its header begins
+pub record TreePage : Type 0 where
+  pub kind : Kind
+  pub bytes : List ℕ
+  pub header : ℕ
+
+-- the page with these bytes, where the pointers to its cells lie within it
+abbrev pub of_kind : Kind → List ℕ → ℕ → Option TreePage
+of_kind kind bytes header =
+    if nat_le (header_end kind.leaf header + 2 * cell_count bytes header) (length bytes) then Some (record { kind = kind; bytes = bytes; header = header }) else None
+
+-- its first byte says whether it is a leaf of such a tree, or has pages below it
+unfoldable pub tree_page : Tree → List ℕ → ℕ → Option TreePage
+tree_page tree bytes header =
+    if slice_index bytes header == flag_of tree true then of_kind (record { tree = tree; leaf = true }) bytes header
+    else if slice_index bytes header == flag_of tree false then of_kind (record { tree = tree; leaf = false }) bytes header
+    else None
+
+-- the bytes from a cell on, where it ends within the page
+unfoldable pub cell_at : TreePage → ℕ → Option (List ℕ)
+cell_at page place =
+    let cell = drop (cell_offset page.kind.leaf page.bytes page.header place) page.bytes in
+    if nat_le (cell_size page.kind (length page.bytes) cell) (length cell) then Some cell else None
+
+-- the page that a node of the kit is
+abbrev pub page_of : Node → TreePage
+page_of node = record { kind = node.kind; bytes = node.bytes.now; header = node.header }
 
 -- ---- reading parts, one behind the other
 
@@ -149,40 +220,3 @@ GivesPage shown found before after (Err Damage) = (found ≡ None) ⊎ (before �
 GivesPage shown found before after (Err Default) = ⊥
 GivesPage shown found before after (Err (Encoding row)) = ⊥
 GivesPage shown found before after (Err Memory) = Unit {0}
-
--- ---- the rows that a cursor has still to give
-
-abbrev pub stored_of : StoredRow → Stored
-stored_of row = record { key = row.key; local = row.payload.local.now; spilled = row.payload.spilled; overflow = row.payload.overflow }
-
-abbrev pub row_step : Option StoredRow → List Step
-row_step None = []
-row_step (Some row) = a_row (stored_of row) ∷ []
-
--- those of a level
-abbrev pub steps_of : List ℕ → Tree → Level → List Step
-steps_of file tree level = row_step level.row ++ rows_from (rows_below file tree level.below) (page_of level.node) level.place
-
--- those of the levels, of which the last is the deepest
-abbrev pub steps_of_all : List ℕ → Tree → List Level → List Step
-steps_of_all file tree [] = []
-steps_of_all file tree (level ∷ deeper) = steps_of_all file tree deeper ++ steps_of file tree level
-
--- a part of a tree, and behind it all that is still to come
-abbrev pub rows_behind : List Step → Cursor → List Stored × Bool
-rows_behind steps cursor = sound_rows cursor.left (steps ++ steps_of_all cursor.file.bytes.now cursor.tree cursor.levels.items)
-
-abbrev pub rows_to_come : Cursor → List Stored × Bool
-rows_to_come cursor = first_of cursor.limit (rows_behind [] cursor)
-
--- a row before others
-abbrev pub with_row : Option StoredRow → List Stored × Bool → List Stored × Bool
-with_row None rows = rows
-with_row (Some row) rows = (stored_of row ∷ rows.0, rows.1)
-
--- why there is none
-abbrev pub LacksRow : List Stored × Bool → TableFault → Type 0
-LacksRow rows Damage = rows ≡ ([], false)
-LacksRow rows Default = ⊥
-LacksRow rows (Encoding at) = ⊥
-LacksRow rows Memory = ⊤

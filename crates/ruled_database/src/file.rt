@@ -2,8 +2,8 @@
 
 ghost use Rattle.std.specs.Prelude.{◌≡◌, ◌≤◌, length, slice_index, false, true, MatchOption, option_map, ⊤, ◌<◌, drop, IfSome};
 ghost use Rattle.sqlite_pages.specs.PageMap.{IsUsableSize};
-ghost use Rattle.ruled_database.specs.Files as spec;
-ghost use Rattle.ruled_database.specs.Files.{has_encoding, cell_at, of_kind, page_of, tree_page};
+ghost use Rattle.ruled_database.specs.Trees as spec;
+ghost use Rattle.ruled_database.specs.Trees.{has_encoding, cell_at, of_kind, page_of, tree_page};
 ghost use Rattle.sqlite_format.specs.Cell.{cell_size};
 ghost use Rattle.sqlite_format.specs.Kinds.{page_flag};
 
@@ -52,7 +52,7 @@ fn page_size(bytes: &[u8]) -> usize
 impl<'a> File<'a> {
     ghost use Rattle.ruled_database.specs.Tables.{encoding_of};
 
-    #[tactic(auto, unfolding(crate::specs::Files::has_header))]
+    #[tactic(auto, unfolding(crate::specs::Trees::has_header))]
     /// The file of these bytes, where they begin with the header of a database.
     pub(crate) fn of(bytes: &'a [u8]) -> Option<File<'a>>
         ensures { MatchOption result (spec.has_header bytes.now ≡ false) (λ file. (spec.has_header bytes.now ≡ true) × (file.bytes.now ≡ bytes.now)) }
@@ -105,7 +105,7 @@ impl<'a> File<'a> {
         self.bytes.len() / self.page_size
     }
 
-    #[tactic(auto, unfolding(crate::specs::Files::page))]
+    #[tactic(auto, unfolding(crate::specs::Trees::page))]
     /// The used bytes of the page of this number.
     pub(crate) fn page(&self, number: u32) -> Option<&'a [u8]>
         ensures bytes { option_map (λ page. page.now) result ≡ spec.page self.now.bytes.now number }
@@ -141,7 +141,7 @@ fn node_of_kind(kind: Kind, bytes: &[u8], header: usize) -> Option<Node<'_>>
 }
 
 // The page of a tree with these bytes, whose header begins here, where the pointers to its cells lie within it.
-#[tactic(auto, unfolding(crate::specs::Files::tree_page))]
+#[tactic(auto, unfolding(crate::specs::Trees::tree_page))]
 pub(crate) fn node_of(tree: Tree, bytes: &[u8], header: usize) -> Option<Node<'_>>
     requires usable { IsUsableSize (length bytes.now) }
     requires header { header ≤ 100 }
@@ -170,7 +170,7 @@ fn tail_of(bytes: &[u8], offset: usize) -> &[u8]
 }
 
 // The bytes from the cell at this place of a page on, where it ends within the page.
-#[tactic(auto, using(sqlite_format::proofs::CellLemmas::cell_size_least), unfolding(crate::specs::Files::cell_at, sqlite_format::specs::Page::cell_offset))]
+#[tactic(auto, using(sqlite_format::proofs::CellLemmas::cell_size_least), unfolding(crate::specs::Trees::cell_at, sqlite_format::specs::Page::cell_offset))]
 pub(crate) fn cell_of<'a>(node: &Node<'a>, place: usize) -> Option<&'a [u8]>
     requires { place < node.now.count }
     ensures value { option_map (λ cell. cell.now) result ≡ cell_at (page_of node.now) place }

@@ -135,7 +135,7 @@ impl Digits {
         self.front(at + 1) % 10
     }
 
-    #[tactic(auto, using(crate::proofs::Floats::front_less, crate::proofs::Floats::run_more, crate::proofs::Floats::run_ends))]
+    #[tactic(auto, using(crate::proofs::Tabling::front_less, crate::proofs::Tabling::run_more, crate::proofs::Tabling::run_ends))]
     // The run of this digit that ends in front of a place.
     fn run_from(self, of: u64, before: usize) -> Run
         requires { before ≤ 14 }
@@ -226,7 +226,7 @@ struct Plain {
     point: usize,
 }
 
-#[tactic(auto, using(crate::proofs::Floats::sized))]
+#[tactic(auto, using(crate::proofs::Tabling::sized))]
 // A positive float that is written without an exponent. None where the digits are too few.
 fn plain_of(bits: u64) -> Option<Plain>
     ensures { IfSome result (λ it. (spec.size bits ≡ spec.with_point (decimal it.digits) it.point) × (0 < bits) × (397 ≤ it.point) × (it.point ≤ 417)) }

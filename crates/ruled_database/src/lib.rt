@@ -16,5 +16,6 @@ mod value;
 
 pub use crate::fault::{DatabaseFault, TableFault};
 pub use crate::file::keeps_log;
-pub use crate::schema::{list_rows, table_rows};
+pub use crate::schema::{list_rows, open_table, table_rows};
+pub use crate::table::TableReader;
 pub use crate::value::push_value;

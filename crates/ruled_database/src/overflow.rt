@@ -1,8 +1,8 @@
 //! The records of rows, which may go on in overflow pages.
 
 ghost use Rattle.std.specs.Prelude.{◌≡◌, length, IfOk};
-ghost use Rattle.ruled_database.specs.Files.{page, page_count, usable_size};
-ghost use Rattle.ruled_database.specs.Trees.{Gives, GivesPage, stored_of, chain, record_of};
+ghost use Rattle.ruled_database.specs.Listings.{stored_of};
+ghost use Rattle.ruled_database.specs.Trees.{page, page_count, usable_size, Gives, GivesPage, chain, record_of};
 
 use crate::fault::TableFault;
 use crate::file::File;

@@ -1,15 +1,16 @@
 //! The tables of a database, as its schema lists them.
 
-ghost use Rattle.std.specs.Prelude.{◌≡◌, ◌∷◌, map, option_map, IfErr, IfOk};
+ghost use Rattle.std.specs.Prelude.{◌≡◌, ◌∷◌, [], Some, map, option_map, IfErr, IfOk};
 ghost use Rattle.csv.specs.Records.{fields_of};
 ghost use Rattle.ruled_database.specs.Tables.{LacksTexts};
 ghost use Rattle.ruled_database.specs.Listings as spec;
+ghost use Rattle.ruled_database.specs.Listings.{HasOpened, HasRead};
 ghost use Rattle.ruled_database.specs.Listings.{AreEntryRows, AreListed, AreTable, IsListing, LacksEntries, LacksEntry, LacksListing, LacksSchema, LacksTable, entry_of};
 
 use crate::definition::{Column, Definition, definition_of};
 use crate::fault::{DatabaseFault, TableFault};
 use crate::file::File;
-use crate::table::{names_of, push_rows};
+use crate::table::{TableReader, names_of, push_rows};
 use crate::value::row_of;
 use ruled_row::{RowBuffer, TextRow};
 use sqlite_items::Items;
@@ -215,6 +216,42 @@ pub fn table_rows(
     let schema = schema_rows(alloc, file)?;
     match find(&schema, name) {
         Some(listed) => entry_rows(alloc, file, null, listed, limit),
+        None => Err(DatabaseFault::Absent),
+    }
+}
+
+// The names of the columns of an entry of the schema, and a reader of its rows, with this text for NULL.
+#[tactic(auto, using(crate::proofs::Tabling::lacks_by_definition, crate::proofs::Reading::opened, crate::proofs::Reading::lacks_by_names, crate::proofs::Reading::lacks_by_tree))]
+fn open_entry<'a>(
+    alloc: Global,
+    file: File<'a>,
+    null: &str,
+    listed: Listed<'_>,
+) -> Result<(TextRow, TableReader<'a>), DatabaseFault>
+    ensures rows { IfOk result (λ opened. HasOpened file.entry.bytes.now null.now (entry_of listed.entry) (fields_of opened.0) opened.1) }
+    ensures fault { IfErr result (LacksEntry (Some 1) file.entry.bytes.now null.now (entry_of listed.entry)) }
+{
+    let definition = stored_definition(alloc, null, listed)?;
+    let names = names_of(alloc, definition.columns.as_slice())?;
+    let reader = TableReader::of(alloc, file, listed.root, definition)?;
+    Ok((names, reader))
+}
+
+/// The names of the columns of a table, and a reader of its rows, which are shown as by [`table_rows`]. A fault is why
+/// not even the first row can be read.
+pub fn open_table<'a>(
+    alloc: Global,
+    bytes: &'a [u8],
+    name: &str,
+    null: &str,
+) -> Result<(TextRow, TableReader<'a>), DatabaseFault>
+    ensures rows { IfOk result (λ opened. HasRead bytes.now name.now null.now (fields_of opened.0 ∷ []) opened.1) }
+    ensures fault { IfErr result (LacksTable (Some 1) bytes.now name.now null.now) }
+{
+    let file = file_of(bytes)?;
+    let schema = schema_rows(alloc, file)?;
+    match find(&schema, name) {
+        Some(listed) => open_entry(alloc, file, null, listed),
         None => Err(DatabaseFault::Absent),
     }
 }

@@ -1,11 +1,12 @@
 //! The rows of a table, as texts.
 
-ghost use Rattle.std.specs.Prelude.{◌≡◌, ◌+◌, length, map, IfErr, IfOk, OnOk};
+ghost use Rattle.std.specs.Prelude.{◌≡◌, ◌+◌, [], ℕ, List, None, length, map, IfErr, IfOk, OnOk};
 ghost use Rattle.csv.specs.Records.{fields_of};
 ghost use Rattle.sqlite_record.specs.Affinity.{as_real};
 ghost use Rattle.sqlite_value.specs.Value.{owned};
-ghost use Rattle.ruled_database.specs.Tables.{LacksTexts, AddsRows, GivesRow, HasWrongText, names_in, rowid, texts_in, value_at, value_in};
-ghost use Rattle.ruled_database.specs.Trees.{stored_of};
+ghost use Rattle.ruled_database.specs.Listings.{HasGiven, HasRead, LacksRow, PushesRows, stored_of};
+ghost use Rattle.ruled_database.specs.Trees.{page_count};
+ghost use Rattle.ruled_database.specs.Tables.{LacksTexts, AddsRows, GivesRow, HasWrongText, names_in, rowid, texts_in, tree_rows, value_at, value_in};
 
 use crate::definition::{Column, Definition, Shown};
 use crate::fault::TableFault;
@@ -98,6 +99,19 @@ struct RowReader<'a> {
 }
 
 impl<'a> RowReader<'a> {
+    // A reader that has read no row.
+    fn of(alloc: Global, file: File<'a>) -> RowReader<'a>
+        ensures file { result.overflow.file ≡ file.entry }
+        ensures left { result.overflow.left ≡ page_count file.entry.bytes.now }
+    {
+        RowReader {
+            overflow: Overflow::of(file),
+            record: Vec::new(alloc),
+            values: Row::new(alloc),
+            texts: RowBuffer::new(alloc),
+        }
+    }
+
     // Appends a row, which has this number.
     fn push_row(
         &mut self,
@@ -112,6 +126,7 @@ impl<'a> RowReader<'a> {
             (map fields_of rows.old.items) (map fields_of rows.new.items) result }
         ensures text { OnOk result (¬ HasWrongText self.old.overflow.file.bytes.now definition.now (stored_of row.now)) }
         ensures count { OnOk result (length rows.new.items ≡ length rows.old.items + 1) }
+        ensures kept { IfErr result (λ fault. rows.new.items ≡ rows.old.items) }
     {
         self.record.clear();
         self.values.clear();
@@ -141,18 +156,65 @@ pub(crate) fn push_rows(
     ensures { AddsRows limit file.entry.bytes.now root definition.now (map fields_of rows.old.items) (map fields_of rows.new.items) result }
 {
     let mut stored = Cursor::of(alloc, file, definition.tree, root, limit)?;
-    let mut reader = RowReader {
-        overflow: Overflow::of(file),
-        record: Vec::new(alloc),
-        values: Row::new(alloc),
-        texts: RowBuffer::new(alloc),
-    };
+    let mut reader = RowReader::of(alloc, file);
     let above = rows.len();
     while let Some(row) = stored.next()? {
         let number = rows.len() - above + 1;
         reader.push_row(alloc, definition, &row, number, rows)?;
     }
     Ok(())
+}
+
+/// The rows of a table, which are read one after another.
+#[derive(Drop)]
+pub struct TableReader<'a> {
+    definition: Definition,
+    stored: Cursor<'a>,
+    reader: RowReader<'a>,
+    /// How many rows it has given, of which the names of the columns are the first.
+    given: usize,
+}
+
+impl<'a> TableReader<'a> {
+    /// A reader of the tree that begins at this page. Only the names of the columns have been given.
+    pub(crate) fn of(
+        alloc: Global,
+        file: File<'a>,
+        root: u32,
+        definition: Definition,
+    ) -> Result<TableReader<'a>, TableFault>
+        ensures given { IfOk result (HasGiven file.entry.bytes.now root definition []) }
+        ensures fault { IfErr result (LacksRow (tree_rows None file.entry.bytes.now definition.tree root)) }
+    {
+        let stored = Cursor::of(alloc, file, definition.tree, root, None)?;
+        Ok(TableReader {
+            definition,
+            stored,
+            reader: RowReader::of(alloc, file),
+            given: 1,
+        })
+    }
+
+    /// Appends the next so many rows, and returns whether there may be more; or those that are left, or those in front of
+    /// the first bad one. What is behind them isn't read.
+    ///
+    /// A row that isn't Unicode is counted from the names of the columns, which are row 0. Behind a fault nothing is read.
+    pub fn push_rows(&mut self, count: usize, rows: &mut Vec<TextRow>) -> Result<bool, TableFault>
+        ensures { (file name null_text : List ℕ) (given : List (List (List ℕ))) → HasRead file name null_text given self.old
+            → PushesRows file name null_text count given (map fields_of rows.old.items) (map fields_of rows.new.items) self.new result }
+    {
+        let alloc = *rows.allocator();
+        for _ in 0..count {
+            let Some(row) = self.stored.next()? else {
+                return Ok(false);
+            };
+            let given = self.given.checked_add(1).ok_or(TableFault::Memory)?;
+            self.reader
+                .push_row(alloc, &self.definition, &row, self.given, rows)?;
+            self.given = given;
+        }
+        Ok(true)
+    }
 }
 
 #[tactic(auto, using(crate::proofs::Tabling::text_more))]

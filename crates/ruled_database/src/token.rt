@@ -1,7 +1,7 @@
 //! The tokens of a statement of SQL, and the parts that commas separate within its parentheses.
 
 ghost use Rattle.std.specs.Prelude.{◌≡◌, IfOk, OnOk};
-ghost use Rattle.ruled_database.specs.Tokens as spec;
+ghost use Rattle.ruled_database.specs.Definitions as spec;
 
 use sqlite_items::Items;
 use std::alloc::{AllocError, Global};
@@ -88,7 +88,7 @@ fn is_word(byte: u8) -> bool
 }
 
 impl Statement {
-    #[tactic(auto, unfolding(crate::specs::Tokens::with_token))]
+    #[tactic(auto, unfolding(crate::specs::Definitions::with_token))]
     // Ends a token.
     fn end_token(&mut self, alloc: Global, form: Form) -> Result<(), AllocError>
         ensures { OnOk result (self.new ≡ spec.with_token form self.old) }
@@ -105,13 +105,13 @@ impl Statement {
 
     // Ends a part.
     fn end_part(&mut self, alloc: Global) -> Result<(), AllocError>
-        ensures { OnOk result (self.new ≡ spec.with_part self.old) }
+        ensures { OnOk result (self.new ≡ spec.with_ended_part self.old) }
     {
         let part = std::mem::replace(&mut self.part, Items::new(alloc));
         self.parts.push(part)
     }
 
-    #[tactic(auto, unfolding(crate::specs::Tokens::with_sign))]
+    #[tactic(auto, unfolding(crate::specs::Definitions::with_sign))]
     // Adds a sign that is no parenthesis.
     fn push_sign(&mut self, alloc: Global, byte: u8) -> Result<(), AllocError>
         ensures { OnOk result (self.new ≡ spec.with_sign byte self.old) }
@@ -120,7 +120,7 @@ impl Statement {
         self.end_token(alloc, Form::Sign)
     }
 
-    #[tactic(auto, unfolding(crate::specs::Tokens::after_sign))]
+    #[tactic(auto, unfolding(crate::specs::Definitions::after_sign))]
     // Takes a byte that is a token.
     fn take_sign(&mut self, alloc: Global, byte: u8) -> Result<(), AllocError>
         ensures { OnOk result (self.new ≡ spec.after_sign byte self.old) }
@@ -144,10 +144,10 @@ impl Statement {
         }
     }
 
-    #[tactic(auto, unfolding(crate::specs::Tokens::begun))]
+    #[tactic(auto, unfolding(crate::specs::Definitions::begun_token))]
     // Takes a byte behind a token, or between two of them.
     fn begin(&mut self, alloc: Global, byte: u8) -> Result<(), AllocError>
-        ensures { OnOk result (self.new ≡ spec.begun byte self.old) }
+        ensures { OnOk result (self.new ≡ spec.begun_token byte self.old) }
     {
         if is_word(byte) {
             self.mode = Mode::Word;
@@ -169,7 +169,7 @@ impl Statement {
 
     // Takes a byte behind a token of this form.
     fn begin_after(&mut self, alloc: Global, form: Form, byte: u8) -> Result<(), AllocError>
-        ensures { OnOk result (self.new ≡ spec.begun byte (spec.with_token form self.old)) }
+        ensures { OnOk result (self.new ≡ spec.begun_token byte (spec.with_token form self.old)) }
     {
         self.end_token(alloc, form)?;
         self.begin(alloc, byte)
@@ -177,13 +177,13 @@ impl Statement {
 
     // Takes a byte behind this sign, which begins no comment.
     fn begin_after_sign(&mut self, alloc: Global, sign: u8, byte: u8) -> Result<(), AllocError>
-        ensures { OnOk result (self.new ≡ spec.begun byte (spec.with_sign sign self.old)) }
+        ensures { OnOk result (self.new ≡ spec.begun_token byte (spec.with_sign sign self.old)) }
     {
         self.push_sign(alloc, sign)?;
         self.begin(alloc, byte)
     }
 
-    #[tactic(auto, unfolding(crate::specs::Tokens::step))]
+    #[tactic(auto, unfolding(crate::specs::Definitions::step))]
     // Takes the next byte.
     fn step(&mut self, alloc: Global, byte: u8) -> Result<(), AllocError>
         ensures { OnOk result (self.new ≡ spec.step self.old byte) }
@@ -224,7 +224,7 @@ fn read_on(alloc: Global, statement: &mut Statement, mut text: &[u8]) -> Result<
     Ok(())
 }
 
-#[tactic(auto, unfolding(crate::specs::Tokens::read))]
+#[tactic(auto, unfolding(crate::specs::Definitions::read))]
 /// The tokens of a statement, by parts.
 pub(crate) fn read(alloc: Global, text: &[u8]) -> Result<Statement, AllocError>
     ensures { IfOk result (λ statement. statement ≡ spec.read text.now) }

@@ -3,8 +3,8 @@
 ghost use Rattle.std.specs.Prelude.{◌≡◌, ◌<◌, ◌≤◌, ◌+◌, ◌*◌, ℕ, None, [], length, option_map, true, IfErr, IfOk, IsSomeAnd};
 ghost use Rattle.sqlite_format.specs.Cell.{IsBody, body_key, cell_body, cell_size};
 ghost use Rattle.sqlite_format.specs.Kinds.{holds_rows};
-ghost use Rattle.ruled_database.specs.Files.{page_of};
-ghost use Rattle.ruled_database.specs.Trees.{LacksRow, own_row, page_at, row_step, rows_behind, rows_below, rows_to_come, steps_of, stored_in, stored_of, with_row};
+ghost use Rattle.ruled_database.specs.Listings.{LacksRow, row_step, rows_behind, rows_to_come, steps_of, stored_of, with_row};
+ghost use Rattle.ruled_database.specs.Trees.{page_of, own_row, page_at, rows_below, stored_in};
 ghost use Rattle.ruled_database.specs.Tables.{tree_rows};
 
 use crate::fault::TableFault;

@@ -1,7 +1,6 @@
 -- A run at once, and a stream whose first rows are all rows.
-use Rattle.std.proofs.Common.{◌≡◌, ◌∙◌, ◌∷◌, ◌++◌, ◌+◌, ◌<◌, ◌≤◌, ℕ, zero, suc, List, [], Bool, true, false, Option, None, Some, map, fold, length, arith, inl, inr, refl, sym, ap, subst}
-use Rattle.std.proofs.Common.{take}
-use Rattle.std.specs.Prelude.{◌==◌, ◌&&◌, not, option_and_then, if◌then◌else◌, ◌≢◌, ◌||◌, is_some, slice_get, slice_index_or, option_map, string_bytes}
+use Rattle.std.proofs.Common.{◌≡◌, ◌∙◌, ◌∷◌, ◌++◌, ◌+◌, ◌<◌, ◌≤◌, ℕ, zero, suc, List, [], Bool, true, false, Option, None, Some, map, fold, length, arith, inl, inr, refl, sym, ap, subst, take}
+use Rattle.std.specs.Prelude.{◌==◌, ◌&&◌, not, option_and_then, if◌then◌else◌, ◌≢◌, is_some, slice_get, slice_index_or, option_map, string_bytes}
 use Rattle.std.specs.List.{cons_option, flat_map, list_all, list_any}
 use Rattle.std.specs.Option.{option_or}
 use Rattle.std.specs.Str.{bytes_eq}
@@ -14,8 +13,8 @@ use Rattle.csv.specs.Reading.{strip_bom}
 use Rattle.json.specs.Json.{Json}
 use Rattle.ruled_json.specs.Faults.{first_line_fault, line_after, line_fault, line_rows_fault}
 use Rattle.ruled_json.specs.Rows.{Rules, columns_of, has_all, line_rows_of, lines_of, names_in, record_on, records_on, row_of, table_in, table_of, with_name}
-use Rattle.ruled_json.specs.Streamed.{LineRules, fault_behind, first_columns, first_fault_behind, late_fault, left_of, lines_above_fault, number_behind, sound_line_rows, streamed_line_fault}
-use Rattle.ruled_json.specs.Streamed.{streamed_table}
+use Rattle.ruled_json.specs.Streamed.{LineRules, fault_behind, first_columns, first_fault_behind, late_fault, left_of, lines_above_fault, number_behind, sound_line_rows}
+use Rattle.ruled_json.specs.Streamed.{streamed_line_fault, streamed_table}
 use Rattle.ruled_json.specs.declared.fault.JsonFault.{JsonFault}
 use Rattle.ruled_json.specs.declared.fault.JsonFault.TheVariants.{NoColumn}
 use Rattle.ruled_json.specs.declared.fault.Place.TheVariants.{Line}
@@ -38,21 +37,27 @@ use Rattle.ruled_table.specs.declared.options.Options.{Options}
 use Rattle.ruled_table.specs.declared.options.Sort.{Sort}
 use Rattle.ruled_io.specs.Faults.{fault_of_json, fault_of_rows, of_view}
 use Rattle.ruled_io.specs.Formats.{content_of}
-use Rattle.ruled_io.specs.Input.{format_fault, input_fault, rows_in, rows_of, fault_from, further_fault, joined, joined_rows, rows_held, rows_of_all}
-use Rattle.ruled_io.specs.Laws.{AllAreFirst, AtOnceShowsAsStreams, BothWaysFindOneFault, IsStreamable, ShowsEachRow, StreamsShowAsAtOnce}
+use Rattle.ruled_io.specs.Input.{AreSelected, format_fault, input_fault, rows_in, rows_of, fault_from, further_fault, joined, joined_rows, rows_held, rows_of_all}
+use Rattle.ruled_io.specs.Runs.{AllAreFirst, AreFirstAs, AsksTable, AtOnceShowsAsStreams, BothWaysFindOneFault, ShowsEachRow, StreamsShowAsAtOnce, AreAsked, AreJoined, AreRows, AreRowsAs}
+use Rattle.ruled_io.specs.Runs.{ShowsAll}
 use Rattle.ruled_io.specs.Reading.{sound_rows, wrong_in}
-use Rattle.ruled_io.specs.Requests.{format_told, holds_database, members_of, rows_needed}
-use Rattle.ruled_io.specs.Runs.{AreRows, AreRowsAs}
-use Rattle.ruled_io.specs.Stream.{first_count, first_plan, first_wrong, line_rules, shown_text, streamed_count, streamed_fault, streamed_format, streamed_rows, streamed_wrong}
-use Rattle.ruled_io.specs.declared.fault.InputFault.TheVariants.{Stream}
+use Rattle.ruled_io.specs.Requests.{format_told, hides_rows, holds_database, log_of, members_of, rows_needed, selection_of}
+use Rattle.ruled_io.specs.Stream.{AreOfDatabase, AreOfTable, AreStreamed, AreStreamedAs, StreamsText, first_count, named_count, first_plan, first_wrong, line_rules, shown_text}
+use Rattle.ruled_io.specs.Stream.{streamed_count, streamed_format}
+use Rattle.ruled_database.specs.Listings.{AreTable}
+use Rattle.ruled_io.specs.declared.fault.InputFault.{InputFault}
 use Rattle.ruled_io.specs.declared.fault.RunFault.{RunFault}
-use Rattle.ruled_io.specs.declared.fault.StreamedFault.TheVariants.{Database}
 use Rattle.ruled_io.specs.declared.formats.Format.{Format}
 use Rattle.ruled_io.specs.declared.formats.Format.TheVariants.{Separated, Json as OneText, JsonLines}
 use Rattle.ruled_io.specs.declared.formats.Known.{Known}
 use Rattle.ruled_io.specs.declared.request.FurtherInput.{FurtherInput}
 use Rattle.ruled_io.specs.declared.request.Request.{Request}
+use Rattle.ruled_io.specs.declared.request.Selection.{Selection}
+use Rattle.ruled_io.specs.declared.request.Selection.TheVariants.{Query, Table, Tables}
+use Rattle.ruled_io.specs.declared.request.Source.{Source}
+use Rattle.ruled_io.specs.declared.request.Source.TheVariants as origin
 use Rattle.ruled_io.proofs.Inputs.{unmapped, joined-alone}
+use Rattle.ruled_io.proofs.Tables.{all-read}
 
 -- ---- lines of JSON that are streamed, against all of them at once
 
@@ -351,84 +356,133 @@ module _ (request : Request) (count : ℕ) (bytes : List ℕ) (all : AllAreFirst
   fine-alone : (rows : List (List Text)) → further_fault request.view request.further.items rows ≡ None
   fine-alone rows = ap (fault_from request.view (rows_of_all request.further.items rows) 0) all.alone
 
-  -- both ways read it in one format
-  format-fault : input_fault None members known bytes ≡ format_fault members format content
-  format-fault = ap (λ (f : Format). format_fault members f (content_of f bytes)) all.format
-
-  format-rows : rows_in None members known bytes ≡ rows_of members format content
-  format-rows = ap (λ (f : Format). rows_of members f (content_of f bytes)) all.format
-
-  held : (holds : Bool) → (if holds then Some (Stream Database) else wrong_in format rules content) ≡ None
-      → AreRowsAs None holds request.source bytes (if holds then [] else sound_rows format rules content)
-      × ((if holds then [] else sound_rows format rules content) ≡ rows_in None members known bytes)
-  held true none = absurd (cc)
-  held false none =
-      let (fine, same) = same-rows rules content format none in
-      let these : sound_rows format rules content ≡ rows_in None members known bytes = same ∙ sym format-rows in
-      ((format-fault ∙ fine, these), these)
-
-  rows-are : streamed_wrong request count bytes ≡ None
-      → AreRows None request.source bytes (streamed_rows request count bytes) × (streamed_rows request count bytes ≡ rows_in None members known bytes)
-  unfolding streamed_rows streamed_wrong
-  rows-are none = held (holds_database request.source bytes) none
-
-  few : (rows : List (List Text)) → rows ≡ rows_in None members known bytes → length rows ≤ first
-  few rows are = subst (λ (n : ℕ). n ≤ first) (ap length (sym are)) all.rows
-
-  wrong-is : IsStreamable request count bytes → streamed_wrong request count bytes ≡ input_fault None members known bytes
-  unfolding streamed_wrong
-  wrong-is (file, lines) =
-      ap (λ (holds : Bool). if holds then Some (Stream Database) else wrong_in format rules content) file
-      ∙ same-wrong request.view count members content format lines (few (rows_of members format content) (sym format-rows)) ∙ sym format-fault
-
-  -- where nothing is wrong, the stream of these rows is what is shown
-  module _ (none : streamed_wrong request count bytes ≡ None) (rows : List (List Text)) (are : rows ≡ rows_in None members known bytes) where
-    same : streamed_rows request count bytes ≡ rows
-    same = (rows-are none).1 ∙ sym are
-
-    fault-is : streamed_fault request count bytes ≡ first_wrong request.view first rows None
-    fault-is = ap (λ (r : List (List Text)). first_wrong request.view first r (streamed_wrong request count bytes)) same ∙ ap (first_wrong request.view first rows) none
-
-    text-is : shown_text request.view first (streamed_rows request count bytes) (streamed_wrong request count bytes) ≡ shown_text request.view first rows None
-    text-is = ap (λ (r : List (List Text)). shown_text request.view first r (streamed_wrong request count bytes)) same ∙ ap (shown_text request.view first rows) none
-
-pub streams-as-at-once : StreamsShowAsAtOnce
-streams-as-at-once request count bytes text all (right, none, is) =
-    let rows : List (List Text) = streamed_rows request count bytes in
-    let (are, same) = rows-are request count bytes all none in
-    let short : length rows ≤ streamed_count request count bytes = few request count bytes all rows same in
-    let fine : first_wrong request.view (streamed_count request count bytes) rows None ≡ None = sym (fault-is request count bytes all none rows same) ∙ right in (
+  -- the stream of rows that are shown at once
+  module _ (rows : List (List Text)) (few : length rows ≤ first) where
+    pub at-once-shown : (text : Text) → AreRows None request.source bytes rows → first_wrong request.view first rows None ≡ None → text ≡ shown_text request.view first rows None → ShowsAll request bytes text
+    at-once-shown text are right is = (
       rows,
-      (
-        rows,
-        subst (λ (limit : Option ℕ). AreRows limit request.source bytes rows) (sym (all-needed request count bytes all)) are,
-        fine-alone request count bytes all rows,
-        sym (alone request count bytes all rows),
-      ),
-      table-fine request.view all.options (streamed_count request count bytes) rows short fine,
-      is ∙ text-is request count bytes all none rows same ∙ one-text request.view all.options (streamed_count request count bytes) rows short fine,
+      (rows, subst (λ (limit : Option ℕ). AreRows limit request.source bytes rows) (sym all-needed) are, fine-alone rows, sym (alone rows)),
+      table-fine request.view all.options first rows few right,
+      is ∙ one-text request.view all.options first rows few right,
     )
 
-pub at-once-as-streams : AtOnceShowsAsStreams
-at-once-as-streams request count bytes text all can (rows, (own, needed, others, joins), right, is) =
-    let owned : own ≡ rows = sym (joins ∙ alone request count bytes all own) in
-    let are : AreRows None request.source bytes rows =
-    subst (λ (rs : List (List Text)). AreRows None request.source bytes rs) owned
-    (subst (λ (limit : Option ℕ). AreRows limit request.source bytes own) (all-needed request count bytes all) needed) in
-    let (fine, same) = subst (λ (holds : Bool). AreRowsAs None holds request.source bytes rows) can.0 are in
-    let none : streamed_wrong request count bytes ≡ None = wrong-is request count bytes all can ∙ fine in
-    let short : length rows ≤ streamed_count request count bytes = few request count bytes all rows same in
-    let first : first_wrong request.view (streamed_count request count bytes) rows None ≡ None =
-    one-wrong request.view all.options (streamed_count request count bytes) rows short ∙ ap (option_map of_view) right in (
-      fault-is request count bytes all none rows same ∙ first,
-      none,
-      is ∙ sym (text-is request count bytes all none rows same ∙ one-text request.view all.options (streamed_count request count bytes) rows short first),
+    pub stream-shown : (text : Text) → AreStreamed request count bytes rows None → table_fault request.view rows ≡ None → text ≡ table_text request.view rows → StreamsText request count bytes text
+    stream-shown text are fine is =
+        let right : first_wrong request.view first rows None ≡ None = one-wrong request.view all.options first rows few ∙ ap (option_map of_view) fine in
+        (rows, are, right, is ∙ sym (one-text request.view all.options first rows few right))
+
+  -- the rows that are shown at once
+  own-rows : (rows : List (List Text)) → AreJoined request bytes rows → AreRows None request.source bytes rows
+  own-rows rows (own, needed, others, joins) =
+      let owned : own ≡ rows = sym (joins ∙ alone own) in
+      subst (λ (rs : List (List Text)). AreRows None request.source bytes rs) owned (subst (λ (limit : Option ℕ). AreRows limit request.source bytes own) all-needed needed)
+
+  -- ---- an input in a format
+
+  module _ (none : holds_database request.source bytes ≡ false) where
+    in-format : AreFirstAs request count bytes false
+    in-format = subst (AreFirstAs request count bytes) none all.rows
+
+    -- both ways read it in one format
+    format-fault : input_fault None members known bytes ≡ format_fault members format content
+    format-fault = ap (λ (f : Format). format_fault members f (content_of f bytes)) in-format.1
+
+    format-rows : rows_in None members known bytes ≡ rows_of members format content
+    format-rows = ap (λ (f : Format). rows_of members f (content_of f bytes)) in-format.1
+
+    -- the rows of a stream
+    streamed : (rows : List (List Text)) (wrong : Option InputFault) → AreStreamed request count bytes rows wrong → (rows ≡ sound_rows format rules content) × (wrong ≡ wrong_in format rules content)
+    streamed rows wrong are = subst (λ (b : Bool). AreStreamedAs request count bytes b rows wrong) none are
+
+    -- where nothing is wrong they are all
+    rows-same : (rows : List (List Text)) → AreStreamed request count bytes rows None → AreRows None request.source bytes rows × (rows ≡ rows_in None members known bytes)
+    rows-same rows are =
+        let (is, fine) = streamed rows None are in
+        let (right, same) = same-rows rules content format (sym fine) in
+        let these : rows ≡ rows_in None members known bytes = is ∙ same ∙ sym format-rows in
+        (subst (λ (b : Bool). AreRowsAs None b request.source bytes rows) (sym none) (format-fault ∙ right, these), these)
+
+    few : (rows : List (List Text)) → rows ≡ rows_in None members known bytes → length rows ≤ first
+    few rows are = subst (λ (n : ℕ). n ≤ first) (ap length (sym are)) in-format.0
+
+    wrong-is : format ≢ OneText → wrong_in format rules content ≡ input_fault None members known bytes
+    wrong-is lines =
+        let many : first ≡ first_count request.view format count = ap (λ (b : Bool). if b then named_count count else first_count request.view format count) none in
+        let short : length (rows_of members format content) ≤ first_count request.view format count = subst (λ (n : ℕ). length (rows_of members format content) ≤ n) many (few (rows_of members format content) (sym format-rows)) in
+        same-wrong request.view count members content format lines short ∙ sym format-fault
+
+    pub format-at-once : (text : Text) → StreamsText request count bytes text → ShowsAll request bytes text
+    format-at-once text (rows, are, right, is) =
+        let (these, same) = rows-same rows are in
+        at-once-shown rows (few rows same) text these right is
+
+    pub format-streams : format ≢ OneText → (text : Text) → ShowsAll request bytes text → StreamsText request count bytes text
+    format-streams lines text (rows, joins, fine, is) =
+        let are : AreRowsAs None false request.source bytes rows = subst (λ (holds : Bool). AreRowsAs None holds request.source bytes rows) none (own-rows rows joins) in
+        let sound : rows ≡ sound_rows format rules content =
+        let (right, same) = same-rows rules content format (wrong-is lines ∙ are.0) in are.1 ∙ format-rows ∙ sym same in
+        stream-shown rows (few rows are.1) text (subst (λ (b : Bool). AreStreamedAs request count bytes b rows None) (sym none) (sound, sym (wrong-is lines ∙ are.0))) fine is
+
+    pub format-fails : format ≢ OneText → (rows : List (List Text)) (wrong : Option InputFault) → AreStreamed request count bytes rows wrong
+        → (wrong ≡ input_fault None members known bytes) × (wrong ≡ None → first_wrong request.view first rows wrong ≡ option_map of_view (table_fault request.view rows))
+    format-fails lines rows wrong are = (
+      (streamed rows wrong are).1 ∙ wrong-is lines,
+      λ fine.
+          let (these, same) = rows-same rows (subst (AreStreamed request count bytes rows) fine are) in
+          ap (first_wrong request.view first rows) fine ∙ one-wrong request.view all.options first rows (few rows same),
     )
 
-pub one-fault : BothWaysFindOneFault
-one-fault request count bytes all can = (
-  wrong-is request count bytes all can,
-  λ none.
-      let rows : List (List Text) = rows_in None (members_of request.source) (format_told request.source) bytes in
-      fault-is request count bytes all none rows refl ∙ one-wrong request.view all.options (streamed_count request count bytes) rows all.rows,
-)
+  -- ---- a table of a database
+
+  module _ (holds : holds_database request.source bytes ≡ true) where
+    asked-few : (rows : List (List Text)) → AreAsked None request.source bytes rows → length rows ≤ first
+    asked-few = subst (AreFirstAs request count bytes) holds all.rows
+
+    stored-as : (asked : Option Selection) → selection_of request.source ≡ asked → (rows : List (List Text)) → AreOfDatabase request count bytes asked rows None → AreAsked None request.source bytes rows
+    stored-as None is rows (none, fine) = absurd (cc)
+    stored-as (Some (Query query)) is rows (none, fine) = absurd (cc)
+    stored-as (Some Tables) is rows (none, fine) = absurd (cc)
+    stored-as (Some (Table name null_text)) is rows are = shows (hides_rows (log_of request.source) bytes) refl are where
+      shows : (hides : Bool) → hides_rows (log_of request.source) bytes ≡ hides → AreOfTable request count bytes hides (string_bytes name) (string_bytes null_text) rows None → AreAsked None request.source bytes rows
+      shows true told (none, fine) = absurd (cc)
+      shows false told here = (told, subst (λ (it : Option Selection). AreSelected None it bytes rows) (sym is) (all-read bytes (string_bytes name) (string_bytes null_text) rows here))
+
+    pub stored-at-once : (text : Text) → StreamsText request count bytes text → ShowsAll request bytes text
+    stored-at-once text (rows, are, right, is) =
+        let asked : AreAsked None request.source bytes rows = stored-as (selection_of request.source) refl rows (subst (λ (b : Bool). AreStreamedAs request count bytes b rows None) holds are) in
+        at-once-shown rows (asked-few rows asked) text (subst (λ (b : Bool). AreRowsAs None b request.source bytes rows) (sym holds) asked) right is
+
+    of-database : (rows : List (List Text)) → AreAsked None request.source bytes rows → (asked : Option Selection) → selection_of request.source ≡ asked → AsksTable asked → AreOfDatabase request count bytes asked rows None
+    of-database rows are None is asks = absurd asks
+    of-database rows are (Some (Query query)) is asks = absurd asks
+    of-database rows are (Some Tables) is asks = absurd asks
+    of-database rows are (Some (Table name null_text)) is asks =
+        let table : AreTable None bytes (string_bytes name) (string_bytes null_text) rows = subst (λ (it : Option Selection). AreSelected None it bytes rows) is are.1 in
+        subst (λ (b : Bool). AreOfTable request count bytes b (string_bytes name) (string_bytes null_text) rows None) (sym are.0) (None, refl, table)
+
+    pub stored-streams : AsksTable (selection_of request.source) → (text : Text) → ShowsAll request bytes text → StreamsText request count bytes text
+    stored-streams asks text (rows, joins, fine, shown) =
+        let asked : AreAsked None request.source bytes rows = subst (λ (b : Bool). AreRowsAs None b request.source bytes rows) holds (own-rows rows joins) in
+        let are = of-database rows asked (selection_of request.source) refl asks in
+        stream-shown rows (asked-few rows asked) text (subst (λ (b : Bool). AreStreamedAs request count bytes b rows None) (sym holds) are) fine shown
+
+pub streams_as_at_once : StreamsShowAsAtOnce
+streams_as_at_once request count bytes text all shown = elim (cases_Bool (holds_database request.source bytes)) [
+  | inl holds ↦ stored-at-once request count bytes all holds text shown
+  | inr none ↦ format-at-once request count bytes all none text shown
+]
+
+-- a table is asked of a database
+asks-database : (source : Source) (bytes : List ℕ) → AsksTable (selection_of source) → holds_database source bytes ≡ true
+asks-database (origin.Rows format) bytes asks = absurd asks
+asks-database (origin.Members format members) bytes asks = absurd asks
+asks-database (origin.Values rules) bytes asks = absurd asks
+asks-database (origin.Seen log rules members) bytes asks = absurd asks
+asks-database (origin.Database selection log) bytes asks = refl
+
+pub at_once_as_streams : AtOnceShowsAsStreams
+at_once_as_streams request count bytes text all (inl (none, lines)) shown = format-streams request count bytes all none lines text shown
+at_once_as_streams request count bytes text all (inr asks) shown = stored-streams request count bytes all (asks-database request.source bytes asks) asks text shown
+
+pub one_fault : BothWaysFindOneFault
+one_fault request count bytes rows wrong all (none, lines) are = format-fails request count bytes all none lines rows wrong are

@@ -20,17 +20,18 @@ use Rattle.ruled_database.specs.declared.fault.TableFault.TheVariants as table
 use Rattle.ruled_table.specs.Arranged.{padded_rows}
 use Rattle.ruled_table.specs.View.{table_excess, table_fault, table_text}
 use Rattle.ruled_table.specs.declared.view.ViewFault.{ViewFault}
-use Rattle.ruled_io.specs.Input.{LacksAnswer, LacksAnswerOf, LacksQueried, LacksSelected, LacksStored, LacksTableOf, fault_read, members_in, queried_fault, tables_fault, tables_of, further_fault, format_fault, input_fault, rows_in}
+use Rattle.ruled_io.specs.Input.{LacksAnswer, LacksAnswerOf, LacksQueried, LacksSelected, LacksStored, LacksTableOf, fault_read, members_in, queried_fault, tables_fault, tables_of}
+use Rattle.ruled_io.specs.Input.{further_fault, format_fault, input_fault, rows_in}
 use Rattle.ruled_sql.specs.Filled as queries
 use Rattle.ruled_io.specs.declared.fault.FurtherFault.TheVariants as further
 use Rattle.ruled_io.specs.declared.request.QueryTable.{QueryTable}
 use Rattle.std.specs.Option.{option_or}
 use Rattle.ruled_io.specs.Faults.{IsOfRead, Tells, but_line_in, fault_of_database, fault_of_json, fault_of_rows, fault_of_sql, is_early, is_memory, is_of_write, is_read, of_further}
+use Rattle.ruled_io.specs.Faults.{failure_in, fault_written, write_part}
 use Rattle.ruled_io.specs.Formats.{content_of, format_in}
-use Rattle.ruled_io.specs.Faults.{failure_in, fault_written, write_part, Begins}
 use Rattle.ruled_io.specs.Requests.{format_told, hides_rows, holds_database, inner_place, known_in, log_of, members_of, rows_needed, sees_database, selection_of}
 use Rattle.ruled_io.specs.Runs.{AreAsked, AreJoined, AreRows, AreRowsAs, CausedAtOnce, LacksInput, LacksInputs, LacksJoined, LacksRows, LacksRowsAs, RemarksAll, ShowsAll, remarks_on}
-use Rattle.ruled_io.specs.Steps.{Draws, limit_of_whole}
+use Rattle.ruled_io.specs.Stream.{Draws, limit_of_whole}
 use Rattle.ruled_io.specs.declared.fault.InputFault.{InputFault}
 use Rattle.ruled_io.specs.declared.fault.InputFault.TheVariants as input
 use Rattle.ruled_io.specs.declared.fault.InputFault.TheVariants.{Memory}

@@ -1,18 +1,21 @@
 -- What the first bytes of an input show: how they spell text, and which format they have.
-use Rattle.std.proofs.Common.{◌≡◌, ℕ, ◌<◌, ◌≤◌, ◌⊎◌, inl, inr, Bool, true, false, not, ◌&&◌, ◌||◌, List, [], ◌∷◌, ◌++◌, Option, Some, None, arith, encode_utf8, encode_utf8_all, get_or, is_some, length, refl, sym, ap, ◌∙◌, if◌then◌else◌, zero, suc, min, option_map, subst, ◌+◌, ◌-◌, take, drop, slice_range, ◌≢◌, add-one, nat_eq, nat_lt, eq-eqb, rules, append-nil, append_assoc, Result, Ok, Err, OnErr}
+use Rattle.std.proofs.Common.{◌≡◌, ℕ, ◌<◌, ◌≤◌, ◌⊎◌, inl, inr, Bool, true, false, not, ◌&&◌, ◌||◌, List, [], ◌∷◌, ◌++◌, Option, Some, None, arith, encode_utf8, encode_utf8_all, get_or}
+use Rattle.std.proofs.Common.{is_some, length, refl, sym, ap, ◌∙◌, if◌then◌else◌, zero, suc, min, option_map, subst, ◌+◌, ◌-◌, take, drop, slice_range, ◌≢◌, add-one, nat_eq, nat_lt, eq-eqb}
+use Rattle.std.proofs.Common.{rules, append-nil, append_assoc, Result, Ok, Err, OnErr}
 use Rattle.std.specs.Char.{InScalarRange}
 use Rattle.std.specs.Char.Utf16.{is_high_surrogate, is_low_surrogate, lone_unit_char, surrogate_pair_char, utf16_chars}
 use Rattle.std.specs.List.{list_any, count_by, before_first, position_or_len, starts_with, take_while}
 use Rattle.std.specs.Option.{some_prefix}
 use Rattle.std.proofs.lemmas.Str.{utf16_chars-nil, utf16_chars_lone}
 use borrow.Author.Tests.{le-leb, le-ltb, lt-leb, lt-ltb}
-use Rattle.ruled_io.specs.Formats.{Decoding, ShowsFirst, behind, decoding_by, is_half, unit_of, units, IsOver, KeepsDecoding}
+use Rattle.ruled_io.specs.Formats.{Decoding, ShowsFirst, behind, decoding_by, is_half, unit_of, units, IsOver, KeepsDecoding, count_of, delimiter_seen, ends_line, first_line, first_sign}
+use Rattle.ruled_io.specs.Formats.{format_from, format_shown, is_database, outside, separated, setting_in, setting_of, values_seen}
 use Rattle.ruled_io.specs.declared.encoding.First.TheVariants.{Char, Nothing, Part}
 use Rattle.ruled_io.specs.declared.encoding.Order.{Order}
 use Rattle.ruled_io.specs.declared.encoding.Scheme.TheVariants.{Utf16}
 use Rattle.std.specs.Prelude.{IsSomeAnd, ◌==◌, ⊤, nat_le, codes, IfOk, option_map, if◌then◌else◌}
 use Rattle.std.specs.Io.KnownBytes.{prepend_known, Consumes, IsAtEnd, Appends, Keeps}
-use Rattle.std.proofs.lemmas.List.{append-nil, take_at, drop_at, take-append-le, drop-append-le, drop-take, drop-drop, length-take-le, length-drop, drop_all, length-take, take_all}
+use Rattle.std.proofs.lemmas.List.{append-nil, take_at, drop_at, take-append-le, drop-append-le, drop-take, drop-drop, length-take-le, length-drop, length-take, take_all}
 use borrow.Rule.Slice.PartMut.{put_mid, post_of}
 use lib.Seq.{take-add}
 use Rattle.std.proofs.Math.Seq.{drop-cons}
@@ -24,8 +27,7 @@ use Rattle.csv.specs.Reading.{is_bom, strip_bom, records, records_from}
 use Rattle.ruled_csv.specs.Quotes.{is_comment, line_behind, is_quote, are_words, config_of}
 use Rattle.ruled_csv.specs.Kept.{first_row_behind, from_first_row, kept_text, lines_of}
 use Rattle.ruled_csv.specs.declared.dialect.RowRules.{RowRules}
-use Rattle.ruled_io.specs.Formats.{count_of, delimiter_seen, ends_line, first_line, first_sign, format_from, format_shown, is_database, outside, separated, setting_in, setting_of, values_seen}
-use Rattle.ruled_io.specs.Reading.{HoldsOn, SetsAlike, ShowsInput, ShowsText, Ends, Gives, GoesOn, HasTaken, Stands, ended_rows, sound_rows, wrong_in, AppendsRest}
+use Rattle.ruled_io.specs.Reading.{GoesTo, HoldsOn, SetsAlike, ShowsInput, ShowsText, Ends, Gives, GoesOn, HasTaken, Stands, StandsIn, ended_rows, sound_rows, wrong_in, AppendsRest}
 use Rattle.ruled_io.specs.declared.formats.Format.{Format}
 use Rattle.ruled_io.specs.declared.formats.Format.TheVariants.{Separated, Json, JsonLines}
 use Rattle.ruled_io.specs.declared.formats.Known.{Known}
@@ -37,7 +39,7 @@ use Rattle.ruled_io.specs.declared.reader.Reader.TheVariants.{Rows, Lines}
 use Rattle.ruled_io.specs.declared.reader.Reading.{Reading}
 use Rattle.ruled_csv.proofs.Readers as csv
 use Rattle.ruled_json.proofs.StreamedLines as json
-use Rattle.ruled_io.specs.declared.reader.Reading.TheVariants.{More, Done}
+use Rattle.ruled_io.specs.declared.reader.Reading.TheVariants.{More, Stored, Done}
 use Rattle.csv.specs.Machine.{next_record}
 use Rattle.ruled_csv.specs.Rows.{rows_of_lines, words_of}
 use Rattle.ruled_json.specs.Rows as json_rows
@@ -57,7 +59,7 @@ use Rattle.ruled_csv.specs.declared.dialect.Dialect.{Dialect}
 use Rattle.ruled_io.specs.declared.fault.InputFault.{InputFault}
 use Rattle.ruled_io.specs.declared.fault.InputFault.TheVariants as input
 use Rattle.std.proofs.KnownBytes.{Appends-kept, Appends-nil, Appends-trans}
-use Rattle.ruled_io.specs.Steps.{Grows, Nears}
+use Rattle.ruled_io.specs.Stream.{Grows, Nears}
 use Rattle.ruled_table.specs.RowLines.{HasAppended, begun_text, lines_of as lines_of_table}
 use Rattle.ruled_table.specs.Layouts.{whole_text, Plan}
 use Rattle.ruled_table.specs.declared.options.Options.{Options}
@@ -537,6 +539,7 @@ module _ (format : Format) (records : LineRules) where
       → given ≡ ended_rows format records before → Gives format records before bytes ((before ++ bytes) ++ behind) old new reading → GoesOn format records all left given old new reading
   given-on all before bytes behind left given old new (More reader) is left-is given-is (taken, (rows, new-is, ended)) =
       (rows, new-is, (before ++ bytes, behind, is, left-is, taken, ap (λ (above : List (List Text)). above ++ rows) given-is ∙ ended))
+  given-on all before bytes behind left given old new (Stored table) is left-is given-is gives = absurd gives
   given-on all before bytes behind left given old new (Done wrong) is left-is given-is (wrong-is, (rows, new-is, sound)) =
       (rows, new-is, (ap (λ (above : List (List Text)). above ++ rows) given-is ∙ sound ∙ ap (sound_rows format records) (sym is), ap (wrong_in format records) is ∙ wrong-is))
 
@@ -554,6 +557,7 @@ module _ (format : Format) (records : LineRules) where
   ends-rows : (all before : List ℕ) (left : Option (List ℕ)) (given old new : List (List Text)) (reading : Reading) → all ≡ before → given ≡ ended_rows format records before → Ends format records before old new reading
       → GoesOn format records all left given old new reading
   ends-rows all before left given old new (More reader) is given-is ends = absurd ends
+  ends-rows all before left given old new (Stored table) is given-is ends = absurd ends
   ends-rows all before left given old new (Done wrong) is given-is (wrong-is, (rows, new-is, sound)) =
       (rows, new-is, (ap (λ (above : List (List Text)). above ++ rows) given-is ∙ sound ∙ ap (sound_rows format records) (sym is), ap (wrong_in format records) is ∙ wrong-is))
 
@@ -566,11 +570,12 @@ module _ (format : Format) (records : LineRules) where
       ends-rows all before left given old new reading (is ∙ ap (λ (xs : List ℕ). before ++ xs) none ∙ append-nil before) given-is (ends before taken)
 
   -- rows that were given are a beginning of all
-  pub stands-begin : (all : List ℕ) (left : Option (List ℕ)) (given : List (List Text)) (reading : Reading) → Stands format records all left given reading → (more : List (List Text)) × (given ++ more ≡ sound_rows format records all)
-  stands-begin all left given (More reader) (before, rest, is, left-is, taken, given-is) =
+  pub stands-to : (all : List ℕ) (left : Option (List ℕ)) (given : List (List Text)) (reading : Reading) → Stands format records all left given reading → GoesTo given reading (sound_rows format records all) (wrong_in format records all)
+  stands-to all left given (More reader) (before, rest, is, left-is, taken, given-is) =
       let (more, sound) = ended-sound format records before rest reader taken in
       (more, ap (λ (rows : List (List Text)). rows ++ more) given-is ∙ sound ∙ ap (sound_rows format records) (sym is))
-  stands-begin all left given (Done wrong) (given-is, wrong-is) = ([], append-nil given ∙ given-is)
+  stands-to all left given (Stored table) stands = absurd stands
+  stands-to all left given (Done wrong) stands = stands
 
 -- ---- a reader of a format, by what the readers of the formats tell
 

@@ -1,6 +1,8 @@
 -- What is read of an input before its rows, and its first rows.
-use Rattle.std.proofs.Common.{◌≡◌, ◌∙◌, ◌<◌, ◌+◌, ◌-◌, ◌^◌, ℕ, Bool, true, false, List, [], ◌++◌, Option, Some, None, Result, Ok, Err, min, inl, inr, refl, sym, ap, subst, append-nil, arith, ◌&&◌, ◌⊎◌, length, length-take, map, take, nat_lt, append_assoc, ◌≤◌, ◌==◌, ◌||◌, suc, ◌∷◌, drop, get_or, length-drop}
-use Rattle.std.specs.Prelude.{◌==◌, IfOk, IfSome, IfErr, is_some, option_map, unwrap_or, if◌then◌else◌}
+use Rattle.std.proofs.Common.{◌≡◌, ◌∙◌, ◌<◌, ◌+◌, ◌-◌, ◌^◌, ℕ, Bool, true, false, List, [], ◌++◌, Option, Some, None, Result, Ok, Err, min, inl, inr, refl, sym, ap, subst, append-nil}
+use Rattle.std.proofs.Common.{arith, ◌&&◌, ◌⊎◌, length, length-take, map, take, nat_lt, append_assoc, ◌≤◌, ◌==◌, ◌||◌, suc, ◌∷◌, drop, get_or, length-drop}
+use Rattle.std.proofs.Common.{Global, String, string_bytes, option_map}
+use Rattle.std.specs.Prelude.{◌==◌, IfOk, IfSome, IfErr, is_some, option_map, unwrap_or, if◌then◌else◌, string_bytes, String}
 use Rattle.std.specs.Io.KnownBytes.{Consumes, IsAtEnd}
 use Rattle.std.specs.Result.{IsErrAnd}
 use Rattle.std.proofs.KnownBytes.{Consumes-trans, Consumes-all, Consumes-nil}
@@ -8,16 +10,19 @@ use Rattle.std.proofs.lemmas.List.{append_cancel_left, take_all, map-append, map
 use Rattle.ruled_json.specs.Rows.{Rules}
 use Rattle.ruled_json.specs.Streamed.{LineRules}
 use Rattle.ruled_csv.specs.Faults as csv
+use Rattle.ruled_database.specs.Listings.{LacksTable}
+use Rattle.ruled_database.specs.declared.fault.DatabaseFault.{DatabaseFault}
 use Rattle.ruled_csv.proofs.TextFaults.{all-sound}
 use Rattle.std.proofs.lemmas.Bool.{cases_Bool, lt-ltb, true≢false, false≢true}
 use Rattle.pg_layout.specs.Text.{Text}
 use Rattle.ruled_table.specs.declared.options.Options.{Options}
 use Rattle.csv.specs.Reading.{strip_bom}
 use Rattle.ruled_io.specs.Formats.{content_of, format_shown, format_streamed, is_database, format_in, format_of_all, is_one_value, is_separated}
-use Rattle.ruled_io.specs.Reading.{BeginsSo, GoesOn, HoldsOn, ReadsFront, ShowsFormat, ShowsInput, ShowsSource, Stands, sound_rows, wrong_in}
-use Rattle.ruled_io.specs.Requests.{format_told, holds_database, members_of, is_ragged}
-use Rattle.ruled_io.specs.Stream.{Ends, StreamsAll, first_count, has_names, line_rules, record_count, streamed_count, streamed_rows, streamed_wrong}
-use Rattle.ruled_io.specs.declared.fault.InputFault.TheVariants.{Stream, Memory}
+use Rattle.ruled_io.specs.Reading.{BeginsSo, GoesOn, GoesTo, HoldsOn, IsTable, ReadsFront, ShowsFormat, ShowsInput, ShowsSource, Stands, sound_rows, wrong_in}
+use Rattle.ruled_io.specs.Requests.{format_told, hides_rows, holds_database, log_of, members_of, is_ragged, selection_of}
+use Rattle.ruled_io.specs.Stream.{AreOfDatabase, AreOfTable, AreStreamed, AreStreamedAs, Ends, EndsOf, StreamsAll, first_count, has_names, line_rules, named_count, record_count}
+use Rattle.ruled_io.specs.Stream.{streamed_count, AreFirst, IsEnough, LacksFirst, fault_of_first, limit_of_whole, plain_lines, wrong_within, beneath}
+use Rattle.ruled_io.specs.declared.fault.InputFault.TheVariants.{Log, Stream, Memory}
 use Rattle.ruled_io.specs.declared.fault.RunFault.{RunFault}
 use Rattle.ruled_io.specs.declared.fault.RunFault.TheVariants.{Input, Read, Closed, Write}
 use Rattle.ruled_io.specs.declared.fault.StreamedFault.TheVariants.{Database}
@@ -27,15 +32,19 @@ use Rattle.ruled_io.specs.declared.formats.Known.{Known}
 use Rattle.ruled_io.specs.declared.program.Remarks.{Remarks}
 use Rattle.ruled_io.specs.declared.reader.Reading.{Reading}
 use Rattle.ruled_io.specs.declared.request.Request.{Request}
+use Rattle.ruled_io.specs.declared.request.Selection.{Selection}
+use Rattle.ruled_io.specs.declared.request.Selection.TheVariants.{Query as Select, Table as Asked, Tables}
 use Rattle.ruled_io.specs.declared.request.Source.{Source}
 use Rattle.ruled_io.specs.declared.request.Source.TheVariants as source
 use Rattle.ruled_io.proofs.Causes.{of-read}
-use Rattle.ruled_io.proofs.Shows.{above-none, wrong-ends, first-rows, open-rows, short-rows}
+use Rattle.ruled_io.proofs.Shows.{above-none, failed-ends, wrong-ends, first-rows, open-rows, short-rows}
+use Rattle.ruled_io.proofs.Fronts.{stands-to}
+use Rattle.ruled_io.proofs.Tables.{database-line, none-read, drop-next}
 use Rattle.ruled_csv.specs.declared.dialect.Dialect.{Dialect}
-use Rattle.ruled_io.specs.Faults.{IsOfRead, but_line_in, fault_of_rows, is_memory, but_line_further, of_further}
-use Rattle.ruled_io.specs.Input.{fault_within, input_fault, rows_in, rows_within, fault_from, fault_held, fault_read, further_fault, further_table, joined, joined_rows, members_in, misfit, names_columns, queried_fault, rows_held, rows_of_all, tables_fault}
-use Rattle.ruled_io.specs.Runs.{AreRows, AreRowsAs, LacksInput, LacksRows, LacksRowsAs}
-use Rattle.ruled_io.specs.Steps.{AreFirst, IsEnough, LacksFirst, fault_of_first, limit_of_whole, plain_lines, wrong_within, beneath}
+use Rattle.ruled_io.specs.Faults.{IsOfRead, but_line_in, fault_of_database, fault_of_rows, is_failure, is_memory, but_line_further, of_further}
+use Rattle.ruled_io.specs.Input.{fault_within, input_fault, rows_within, fault_from, fault_held, fault_read, further_fault, further_table, joined, joined_rows, members_in, misfit}
+use Rattle.ruled_io.specs.Input.{names_columns, queried_fault, rows_held, rows_of_all, tables_fault}
+use Rattle.ruled_io.specs.Runs.{AreRows, AreRowsAs, LacksInput, LacksRowsAs}
 use Rattle.ruled_io.specs.declared.fault.InputFault.{InputFault}
 use Rattle.ruled_io.specs.declared.formats.Known.TheVariants as known
 use Rattle.std.specs.Cmp.Lexicographic.{pointwise, pointwise_decides}
@@ -54,7 +63,6 @@ use Rattle.ruled_sql.specs.declared.filled.NamedRows.{NamedRows}
 use Rattle.ruled_io.specs.declared.fault.FurtherFault.{FurtherFault}
 use Rattle.ruled_io.specs.declared.fault.FurtherFault.TheVariants.{Header, Length}
 use Rattle.ruled_io.specs.declared.request.FurtherInput.{FurtherInput}
-use Rattle.ruled_io.proofs.Tables.{drop-next}
 use Rattle.ruled_io.specs.declared.fault.InputFault.TheVariants as found
 
 -- ---- what is read of an input before its rows
@@ -112,7 +120,7 @@ some-records count = elim (cases_Bool (count == 0)) [
   | inr some ↦ rw some (above-none count some)
 ]
 
-some-more : (n : ℕ) → 0 < min (n + 1) (2 ^ 64 - 1)
+pub some-more : (n : ℕ) → 0 < min (n + 1) (2 ^ 64 - 1)
 some-more n = omega arith
 
 pub first-some : (options : Options) (format : Format) (count : ℕ) → 0 < first_count options format count
@@ -121,18 +129,95 @@ first-some options format count = elim (cases_Bool (has_names options format)) [
   | inr others ↦ rw others (some-records count)
 ]
 
--- what is wrong with all where a database holds them
-pub database-ends : (request : Request) (count : ℕ) (bytes : List ℕ) (old : Option (List ℕ)) (result : Result Remarks RunFault) → holds_database request.source bytes ≡ true → IsErrAnd result (λ found. found ≡ Input (Stream Database)) → StreamsAll request count bytes old old result
-unfolding streamed_rows streamed_wrong
-database-ends request count bytes old result holds is =
-    wrong-ends request.view (streamed_count request count bytes) (streamed_rows request count bytes) (streamed_wrong request count bytes) old (Stream Database) result is
-    (rw holds refl, rw holds (lt-ltb 0 (streamed_count request count bytes) (first-some request.view (format_streamed (format_told request.source) bytes) count)))
+-- what is asked of a database, where it isn't streamed
+module _ (request : Request) (count : ℕ) (bytes : List ℕ) (holds : holds_database request.source bytes ≡ true) where
+  streamed-stored : (rows : List (List Text)) (wrong : Option InputFault) → AreOfDatabase request count bytes (selection_of request.source) rows wrong → AreStreamed request count bytes rows wrong
+  streamed-stored rows wrong are = subst (λ (b : Bool). AreStreamedAs request count bytes b rows wrong) (sym holds) are
+
+  -- so many of its rows are first
+  stored-ends : (old new : Option (List ℕ)) (result : Result Remarks RunFault) (rows : List (List Text)) (wrong : Option InputFault) → AreOfDatabase request count bytes (selection_of request.source) rows wrong
+      → Ends request.view (named_count count) rows wrong old new result → StreamsAll request count bytes old new result
+  stored-ends old new result rows wrong are ends =
+      let many : named_count count ≡ streamed_count request count bytes = sym (ap (λ (b : Bool). if b then named_count count else first_count request.view (format_streamed (format_told request.source) bytes) count) holds) in
+      (rows, wrong, streamed-stored rows wrong are, subst (λ (n : ℕ). Ends request.view n rows wrong old new result) many ends)
+
+  -- before any row is known something is wrong
+  none-stored : (old : Option (List ℕ)) (fault : InputFault) (result : Result Remarks RunFault) → IsErrAnd result (λ found. found ≡ Input fault) → Some fault ≡ Some (but_line_in fault) → AreOfDatabase request count bytes (selection_of request.source) [] (Some fault)
+      → StreamsAll request count bytes old old result
+  none-stored old fault result is line are =
+      stored-ends old old result [] (Some fault) are (wrong-ends request.view (named_count count) [] (Some fault) old fault result is (line, lt-ltb 0 (named_count count) (some-more (record_count count))))
+
+  -- no table is asked
+  database-ends : (old : Option (List ℕ)) (result : Result Remarks RunFault) → AreOfDatabase request count bytes (selection_of request.source) [] (Some (Stream Database)) → IsErrAnd result (λ found. found ≡ Input (Stream Database)) → StreamsAll request count bytes old old result
+  database-ends old result are is = none-stored old (Stream Database) result is refl are
+
+  -- the same by what is asked
+  pub unasked-ends : (asked : Option Selection) → selection_of request.source ≡ asked → AreOfDatabase request count bytes asked [] (Some (Stream Database)) → (old : Option (List ℕ)) (result : Result Remarks RunFault)
+      → IsErrAnd result (λ found. found ≡ Input (Stream Database)) → StreamsAll request count bytes old old result
+  unasked-ends asked is are old result told = database-ends old result (subst (λ (it : Option Selection). AreOfDatabase request count bytes it [] (Some (Stream Database))) (sym is) are) told
+
+  pub unasked-fails : (old : Option (List ℕ)) (found : RunFault) (result : Result Remarks RunFault) → IsErrAnd result (λ fault. fault ≡ found) → is_failure found ≡ true → AreOfDatabase request count bytes (selection_of request.source) [] (Some (Stream Database))
+      → StreamsAll request count bytes old old result
+  unasked-fails old found result is failed are = stored-ends old old result [] (Some (Stream Database)) are (failed-ends request.view (named_count count) [] (Some (Stream Database)) old found result is failed)
+
+  module _ (name null_text : String Global) (asked : selection_of request.source ≡ Some (Asked name null_text)) where
+    of-table : (hides : Bool) → hides_rows (log_of request.source) bytes ≡ hides → (rows : List (List Text)) (wrong : Option InputFault) → AreOfTable request count bytes hides (string_bytes name) (string_bytes null_text) rows wrong → AreOfDatabase request count bytes (selection_of request.source) rows wrong
+    of-table hides is rows wrong are = subst (λ (it : Option Selection). AreOfDatabase request count bytes it rows wrong) (sym asked) (subst (λ (b : Bool). AreOfTable request count bytes b (string_bytes name) (string_bytes null_text) rows wrong) (sym is) are)
+
+    -- its rows may be in a log
+    pub log-ends : (old : Option (List ℕ)) (result : Result Remarks RunFault) → hides_rows (log_of request.source) bytes ≡ true → IsErrAnd result (λ found. found ≡ Input Log) → StreamsAll request count bytes old old result
+    log-ends old result hides is = none-stored old Log result is refl (of-table true hides [] (Some Log) (refl, refl))
+
+    -- its rows end so
+    pub table-ends-so : (old new : Option (List ℕ)) (result : Result Remarks RunFault) → hides_rows (log_of request.source) bytes ≡ false
+        → EndsOf request.view (named_count count) (IsTable bytes (string_bytes name) (string_bytes null_text)) old new result → StreamsAll request count bytes old new result
+    table-ends-so old new result hides (rows, wrong, are, ends) = stored-ends old new result rows wrong (of-table false hides rows wrong are) ends
+
+    -- a read failed, or memory was refused
+    pub stored-fails : (old : Option (List ℕ)) (found : RunFault) (result : Result Remarks RunFault) → IsErrAnd result (λ fault. fault ≡ found) → is_failure found ≡ true → StreamsAll request count bytes old old result
+    stored-fails old found result is failed = elim (cases_Bool (hides_rows (log_of request.source) bytes)) [
+      | inl hides ↦ stored-ends old old result [] (Some Log) (of-table true hides [] (Some Log) (refl, refl)) (failed-ends request.view (named_count count) [] (Some Log) old found result is failed)
+      | inr shows ↦
+          stored-ends old old result [] (Some Memory) (of-table false shows [] (Some Memory) (none-read bytes (string_bytes name) (string_bytes null_text)))
+          (failed-ends request.view (named_count count) [] (Some Memory) old found result is failed)
+    ]
+
+-- it isn't read
+pub opened-none : (options : Options) (count : ℕ) (file name null_text : List ℕ) (old : Option (List ℕ)) (found : DatabaseFault) (told : InputFault) → told ≡ fault_of_database found → LacksTable (Some 1) file name null_text found
+    → EndsOf options (named_count count) (IsTable file name null_text) old old (Err (Input told))
+opened-none options count file name null_text old found told is lacks =
+    let wrong : Option InputFault = Some (fault_of_database found) in
+    let line : wrong ≡ Some (but_line_in told) = ap (λ (f : InputFault). Some f) (sym (ap but_line_in is ∙ database-line found)) in
+    ([], wrong, (Some found, refl, inl (refl, lacks)), wrong-ends options (named_count count) [] wrong old told (Err (Input told)) refl (line, lt-ltb 0 (named_count count) (some-more (record_count count))))
+
+-- memory or a read failed before its rows
+pub unread-ends : (options : Options) (count : ℕ) (file name null_text : List ℕ) (old : Option (List ℕ)) (found : RunFault) (result : Result Remarks RunFault) → IsErrAnd result (λ fault. fault ≡ found) → is_failure found ≡ true
+    → EndsOf options (named_count count) (IsTable file name null_text) old old result
+unread-ends options count file name null_text old found result is failed =
+    ([], Some Memory, none-read file name null_text, failed-ends options (named_count count) [] (Some Memory) old found result is failed)
+
+-- a read of an input failed
+stored-by : (request : Request) (count : ℕ) (bytes : List ℕ) (asked : Option Selection) → selection_of request.source ≡ asked → holds_database request.source bytes ≡ true → (old : Option (List ℕ)) (found : RunFault) (result : Result Remarks RunFault)
+    → IsErrAnd result (λ fault. fault ≡ found) → is_failure found ≡ true → StreamsAll request count bytes old old result
+stored-by request count bytes (Some (Asked name null_text)) is holds old found result told failed = stored-fails request count bytes holds name null_text is old found result told failed
+stored-by request count bytes None is holds old found result told failed = unasked-fails request count bytes holds old found result told failed (subst (λ (it : Option Selection). AreOfDatabase request count bytes it [] (Some (Stream Database))) (sym is) (refl, refl))
+stored-by request count bytes (Some (Select query)) is holds old found result told failed = unasked-fails request count bytes holds old found result told failed (subst (λ (it : Option Selection). AreOfDatabase request count bytes it [] (Some (Stream Database))) (sym is) (refl, refl))
+stored-by request count bytes (Some Tables) is holds old found result told failed = unasked-fails request count bytes holds old found result told failed (subst (λ (it : Option Selection). AreOfDatabase request count bytes it [] (Some (Stream Database))) (sym is) (refl, refl))
+
+pub input-fails : (request : Request) (count : ℕ) (bytes : List ℕ) (old : Option (List ℕ)) (found : RunFault) (result : Result Remarks RunFault) → IsErrAnd result (λ fault. fault ≡ found) → is_failure found ≡ true → StreamsAll request count bytes old old result
+input-fails request count bytes old found result told failed = elim (cases_Bool (holds_database request.source bytes)) [
+  | inl holds ↦ stored-by request count bytes (selection_of request.source) refl holds old found result told failed
+  | inr none ↦
+      let shown_format : Format = format_streamed (format_told request.source) bytes in
+      let rows : List (List Text) = sound_rows shown_format (line_rules count (members_of request.source)) (content_of shown_format bytes) in
+      let wrong : Option InputFault = wrong_in shown_format (line_rules count (members_of request.source)) (content_of shown_format bytes) in
+      (rows, wrong, subst (λ (b : Bool). AreStreamedAs request count bytes b rows wrong) (sym none) (refl, refl), failed-ends request.view (streamed_count request count bytes) rows wrong old found result told failed)
+]
 
 -- the rows of an input in the format that its first bytes show
 pub rows-end-so : (request : Request) (count : ℕ) (front rest all : List ℕ) (format : Format) (old new : Option (List ℕ)) (result : Result Remarks RunFault) → all ≡ front ++ rest
     → ShowsSource request.source front rest → holds_database request.source front ≡ false → format ≡ format_streamed (format_told request.source) front
     → Ends request.view (first_count request.view format count) (sound_rows format (line_rules count (members_of request.source)) (content_of format front ++ rest)) (wrong_in format (line_rules count (members_of request.source)) (content_of format front ++ rest)) old new result → StreamsAll request count all old new result
-unfolding streamed_rows streamed_wrong
 rows-end-so request count front rest all format old new result is (same, shows) none shown ends =
     let given_format : Known = format_told request.source in
     let both : ShowsFormat given_format front rest = shows none in
@@ -143,9 +228,17 @@ rows-end-so request count front rest all format old new result is (same, shows) 
     ∙ ap (λ (f : Format). content_of f front ++ rest) (sym shown)
     )
     in
-    rw (ap (holds_database request.source) is ∙ same ∙ none)
-    (subst (λ (f : Format). Ends request.view (first_count request.view f count) (sound_rows f (line_rules count (members_of request.source)) (content_of f all)) (wrong_in f (line_rules count (members_of request.source)) (content_of f all)) old new result) formats
-    (subst (λ (xs : List ℕ). Ends request.view (first_count request.view format count) (sound_rows format (line_rules count (members_of request.source)) xs) (wrong_in format (line_rules count (members_of request.source)) xs) old new result) content ends))
+    let holds : holds_database request.source all ≡ false = ap (holds_database request.source) is ∙ same ∙ none in
+    let here = subst (λ (f : Format). Ends request.view (first_count request.view f count) (sound_rows f (line_rules count (members_of request.source)) (content_of f all)) (wrong_in f (line_rules count (members_of request.source)) (content_of f all)) old new result) formats
+    (subst (λ (xs : List ℕ). Ends request.view (first_count request.view format count) (sound_rows format (line_rules count (members_of request.source)) xs) (wrong_in format (line_rules count (members_of request.source)) xs) old new result) content ends) in
+    let shown_format : Format = format_streamed given_format all in (
+      sound_rows shown_format (line_rules count (members_of request.source)) (content_of shown_format all),
+      wrong_in shown_format (line_rules count (members_of request.source)) (content_of shown_format all),
+      subst (λ (b : Bool). AreStreamedAs request count all b (sound_rows shown_format (line_rules count (members_of request.source)) (content_of shown_format all)) (wrong_in shown_format (line_rules count (members_of request.source)) (content_of shown_format all)))
+          (sym holds) (refl, refl),
+      subst (λ (n : ℕ). Ends request.view n (sound_rows shown_format (line_rules count (members_of request.source)) (content_of shown_format all)) (wrong_in shown_format (line_rules count (members_of request.source)) (content_of shown_format all)) old new result)
+          (sym (ap (λ (b : Bool). if b then named_count count else first_count request.view shown_format count) holds)) here,
+    )
 
 -- what holds of all bytes
 pub if-known : {P : List ℕ → Type 0} (given : Option (List ℕ)) → ((bytes : List ℕ) → given ≡ Some bytes → P bytes) → IfSome given P
@@ -181,9 +274,12 @@ rest-all front held given mid (done, is, took) end = Consumes-all given mid done
 -- ---- the first rows
 
 module _ (format : Format) (limit : ℕ) (all : List ℕ) (left : Option (List ℕ)) (given : List (List Text)) (reading : Reading) (enough : IsEnough limit given reading) (stands : Stands format plain_lines all left given reading) where
+  goes : GoesTo given reading (sound_rows format plain_lines all) (wrong_in format plain_lines all)
+  goes = stands-to format plain_lines all left given reading stands
+
   -- nothing is wrong with them
   pub first-are : wrong_within limit (length given) reading ≡ None → AreFirst format limit all (take limit given)
-  first-are none = (fine (wrong_in format plain_lines all) (nat_lt (length (sound_rows format plain_lines all)) limit) (open-rows limit format plain_lines all left given reading enough stands none), first-rows limit format plain_lines all left given reading enough stands) where
+  first-are none = (fine (wrong_in format plain_lines all) (nat_lt (length (sound_rows format plain_lines all)) limit) (open-rows limit (sound_rows format plain_lines all) (wrong_in format plain_lines all) given reading enough goes none), first-rows limit (sound_rows format plain_lines all) (wrong_in format plain_lines all) given reading enough goes) where
     fine : (wrong : Option InputFault) (short : Bool) → (is_some wrong && short) ≡ false → (if short then wrong else None) ≡ None
     fine wrong false whole = refl
     fine None true whole = refl
@@ -191,7 +287,7 @@ module _ (format : Format) (limit : ℕ) (all : List ℕ) (left : Option (List �
 
   -- they end at a bad one
   pub first-lack : (fault : InputFault) → wrong_within limit (length given) reading ≡ Some fault → fault_of_first format limit all ≡ Some (but_line_in fault)
-  first-lack fault some = let (wrong, short) = short-rows limit format plain_lines all left given reading fault stands some in rw (short, wrong) refl
+  first-lack fault some = let (wrong, short) = short-rows limit (sound_rows format plain_lines all) (wrong_in format plain_lines all) given reading fault goes some in rw (short, wrong) refl
 
 pub read-first : (format : Format) (limit : ℕ) (all : List ℕ) (found : RunFault) → IsOfRead found → LacksFirst format limit all found
 read-first format limit all found (inl memory) = subst (LacksFirst format limit all) (sym memory) (λ soft. absurd (true≢false soft))

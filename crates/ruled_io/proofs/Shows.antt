@@ -1,6 +1,6 @@
 -- What is shown of rows: of all of them at once, or of some as they come, of which the first are known.
-use Rattle.std.proofs.Common.{◌≡◌, ◌∙◌, ◌<◌, ℕ, Bool, true, false, List, [], ◌∷◌, ◌++◌, Option, Some, None, is_some, Result, Ok, Err, OnErr, OnOk, drop, length, map, refl, sym, ap, subst}
-use Rattle.std.proofs.Common.{arith, inl, inr, ◌+◌, ◌&&◌, zero, suc, length-append, take, nat_lt, append-nil}
+use Rattle.std.proofs.Common.{◌≡◌, ◌∙◌, ◌<◌, ◌≤◌, ℕ, Bool, true, false, List, [], ◌∷◌, ◌++◌, Option, Some, None, is_some, Result, Ok, Err, OnErr, OnOk, drop, length, map, refl, sym, ap}
+use Rattle.std.proofs.Common.{subst, arith, inl, inr, ◌+◌, ◌&&◌, zero, suc, length-append, take, nat_lt, append-nil}
 use Rattle.std.specs.Prelude.{◌==◌, IfErr, IfOk, not, IfSome, if◌then◌else◌, option_map}
 use Rattle.std.specs.List.{flat_map}
 use Rattle.std.specs.Option.{option_or}
@@ -24,27 +24,26 @@ use Rattle.ruled_table.specs.declared.options.Vertical.{Vertical}
 use Rattle.ruled_table.specs.declared.options.Vertical.TheVariants.{Always, IfOmitting, Never}
 use Rattle.ruled_table.specs.declared.table_rows.TableRows.{TableRows}
 use Rattle.ruled_io.specs.Faults.{is_early, is_of_write, is_read, of_view, read_part, but_line, but_line_in, is_failure, Begins, TellsWrite, failure_in}
-use Rattle.ruled_io.specs.Reading.{ReportsRead, Stands, sound_rows, wrong_in}
-use Rattle.ruled_io.specs.Steps.{Draws, DrawsInMemory, EndsBelow, Nears, WritesRows, Grows, IsEnough, wrong_within}
+use Rattle.ruled_io.specs.Reading.{GoesTo, ReportsRead}
+use Rattle.ruled_io.specs.Stream.{Draws, DrawsInMemory, EndsBelow, Nears, WritesRows, Grows, IsEnough, wrong_within, AreStreamed, StreamsAll, streamed_count, Ends, first_layout}
+use Rattle.ruled_io.specs.Stream.{first_remarks, first_wrong, lines_in, first_plan, shown_text}
 use Rattle.ruled_io.specs.declared.fault.ReadFault.{ReadFault}
 use Rattle.ruled_io.specs.declared.fault.RunFault.{RunFault}
 use Rattle.ruled_io.specs.declared.fault.RunFault.TheVariants.{Input, Read, Closed, Write}
 use Rattle.ruled_table.proofs.Tables.{chosen-named as tables-named}
-use Rattle.ruled_io.proofs.Fronts.{begun-none, begun-whole, begins-behind, begins-longer, begins-none, grows-more, nears-more, nears-on, Goes, goes-end, goes-on, whole-none, begins-kept, and-false}
+use Rattle.ruled_io.proofs.Fronts.{begun-none, begun-whole, begins-behind, begins-longer, begins-none, grows-more, nears-more, nears-on, Goes, goes-end, goes-on, whole-none, begins-kept}
+use Rattle.ruled_io.proofs.Fronts.{and-false}
 use Rattle.ruled_io.specs.Runs.{AreRemarks, CausedAtOnce, CausedBy, RemarksAll, RemarksBy, ShowsAll, ShowsBy}
-use Rattle.ruled_io.specs.Stream.{StreamsAll, streamed_text, Ends, first_layout, first_remarks, first_wrong, lines_in, first_plan, shown_text}
 use Rattle.ruled_io.specs.declared.program.Remarks.{Remarks}
 use Rattle.ruled_io.specs.declared.request.Request.{Request}
 use Rattle.ruled_io.specs.declared.request.Rows.{Rows}
 use Rattle.ruled_io.specs.declared.request.Rows.TheVariants.{AtOnce, FromFirst}
 use Rattle.std.proofs.lemmas.List.{nil_from_length, take-append-le}
-use Rattle.ruled_json.specs.Streamed.{LineRules}
 use Rattle.ruled_table.specs.Tables.{is_memory as is_lost}
 use Rattle.ruled_io.specs.declared.fault.InputFault.{InputFault}
-use Rattle.ruled_io.specs.declared.formats.Format.{Format}
 use Rattle.ruled_io.specs.declared.reader.Reading.{Reading}
-use Rattle.ruled_io.specs.declared.reader.Reading.TheVariants.{More, Done}
-use Rattle.ruled_io.proofs.Fronts.{stands-begin}
+use Rattle.ruled_io.specs.declared.reader.Reading.TheVariants.{More, Stored, Done}
+use Rattle.ruled_io.proofs.Tables.{goes-behind}
 
 -- ---- rows that are written when all of them are there
 
@@ -343,9 +342,17 @@ module _ {X : Type 0} (given old new : Option (List ℕ)) (request : Request) (r
   pub once-caused : request.rows ≡ AtOnce → IfErr r (λ fault. IfSome given (λ bytes. CausedAtOnce request bytes fault old new)) → EndsBefore request.rows
   once-caused is ends = subst EndsBefore (sym is) ends
 
+-- where nothing is wrong with the rows of a stream, all of them are shown
+fine-streams : (old new : Option (List ℕ)) (request : Request) (count : ℕ) (bytes : List ℕ) (remarks : Remarks) → StreamsAll request count bytes old new (Ok remarks)
+    → (rows : List (List Text)) × AreStreamed request count bytes rows None × Ends request.view (streamed_count request count bytes) rows None old new (Ok remarks)
+fine-streams old new request count bytes remarks (rows, None, are, ends) = (rows, are, ends)
+fine-streams old new request count bytes remarks (rows, Some fault, are, ends) = absurd (true≢false (ap (λ (o : Option InputFault). is_some o) ends.1))
+
 streamed-text : (given old new : Option (List ℕ)) (request : Request) (count : ℕ) (r : Result Remarks RunFault) → IfSome given (λ bytes. StreamsAll request count bytes old new r) → ShowsText given old new request r (FromFirst count)
 streamed-text None old new request count (Ok x) streams = tt
-streamed-text (Some bytes) old new request count (Ok x) (none, fine, wrote, is) = (streamed_text request count bytes, (none, fine, refl), wrote)
+streamed-text (Some bytes) old new request count (Ok x) streams =
+    let (rows, are, (right, none, wrote, is)) = fine-streams old new request count bytes x streams in
+    (shown_text request.view (streamed_count request count bytes) rows None, (rows, are, right, refl), wrote)
 streamed-text given old new request count (Err fault) streams = tt
 
 streamed-cause : (given old new : Option (List ℕ)) (request : Request) (count : ℕ) (r : Result Remarks RunFault) → IfSome given (λ bytes. StreamsAll request count bytes old new r) → EndsBefore given old new request r (FromFirst count)
@@ -365,7 +372,9 @@ once-remarked given request result is remarked = subst (λ (how : Rows). IfOk re
 
 streamed-remarked : (given old new : Option (List ℕ)) (request : Request) (count : ℕ) (r : Result Remarks RunFault) → IfSome given (λ bytes. StreamsAll request count bytes old new r) → IfOk r (λ remarks. IfSome given (λ bytes. RemarksBy (FromFirst count) request bytes remarks))
 streamed-remarked None old new request count (Ok x) streams = tt
-streamed-remarked (Some bytes) old new request count (Ok x) (none, fine, wrote, is) = is
+streamed-remarked (Some bytes) old new request count (Ok x) streams =
+    let (rows, are, (right, none, wrote, is)) = fine-streams old new request count bytes x streams in
+    (rows, are, is)
 streamed-remarked given old new request count (Err fault) streams = tt
 
 pub rows-remarked : (given old new : Option (List ℕ)) (request : Request) (count : ℕ) (r : Result Remarks RunFault) → request.rows ≡ FromFirst count → IfSome given (λ bytes. StreamsAll request count bytes old new r) → IfOk r (λ remarks. IfSome given (λ bytes. AreRemarks request bytes remarks))
@@ -381,58 +390,58 @@ ending-remarked given request (Err fault) remarks are is none = absurd (true≢f
 
 -- ---- the first rows of an input
 
-module _ (count : ℕ) (format : Format) (records : LineRules) (all : List ℕ) where
+module _ (count : ℕ) (rows : List (List Text)) (wrong : Option InputFault) where
+  open-behind : (given more : List (List Text)) → given ++ more ≡ rows → count ≤ length given → (is_some wrong && nat_lt (length rows) count) ≡ false
+  open-behind given more whole enough =
+      let long : length given + length more ≡ length rows = sym (length-append given more) ∙ ap length whole in
+      ap (λ (b : Bool). is_some wrong && b) (le-ltb (length rows) count (omega (arith, long, enough))) ∙ and-false (is_some wrong)
+
   -- no bad row is among them
-  pub open-rows : (left : Option (List ℕ)) (given : List (List Text)) (reading : Reading) → IsEnough count given reading → Stands format records all left given reading → wrong_within count (length given) reading ≡ None
-      → (is_some (wrong_in format records all) && nat_lt (length (sound_rows format records all)) count) ≡ false
-  open-rows left given (More reader) enough stands none =
-      let (more, whole) = stands-begin format records all left given (More reader) stands in
-      let long : length given + length more ≡ length (sound_rows format records all) = sym (length-append given more) ∙ ap length whole in
-      ap (λ (b : Bool). is_some (wrong_in format records all) && b) (le-ltb (length (sound_rows format records all)) count (omega (arith, long, enough))) ∙ and-false (is_some (wrong_in format records all))
-  open-rows left given (Done None) enough stands none = rw stands.1 refl
-  open-rows left given (Done (Some fault)) enough stands none = elim (cases_Bool (nat_lt (length given) count)) [
+  pub open-rows : (given : List (List Text)) (reading : Reading) → IsEnough count given reading → GoesTo given reading rows wrong → wrong_within count (length given) reading ≡ None → (is_some wrong && nat_lt (length rows) count) ≡ false
+  open-rows given (More reader) enough (more, whole) none = open-behind given more whole enough
+  open-rows given (Stored table) enough (more, whole) none = open-behind given more whole enough
+  open-rows given (Done None) enough goes none = rw goes.1 refl
+  open-rows given (Done (Some fault)) enough goes none = elim (cases_Bool (nat_lt (length given) count)) [
     | inl short ↦ let some : Some fault ≡ None = (rw short at none) in cc
-    | inr long ↦
-        ap (λ (b : Bool). is_some (wrong_in format records all) && b) (ap (λ (rows : List (List Text)). nat_lt (length rows) count) (sym stands.0) ∙ long) ∙ and-false (is_some (wrong_in format records all))
+    | inr long ↦ ap (λ (b : Bool). is_some wrong && b) (ap (λ (rs : List (List Text)). nat_lt (length rs) count) (sym goes.0) ∙ long) ∙ and-false (is_some wrong)
   ]
 
   -- a bad row is among them
-  pub short-rows : (left : Option (List ℕ)) (given : List (List Text)) (reading : Reading) (fault : InputFault) → Stands format records all left given reading → wrong_within count (length given) reading ≡ Some fault
-      → (wrong_in format records all ≡ Some (but_line_in fault)) × (nat_lt (length (sound_rows format records all)) count ≡ true)
-  short-rows left given (More reader) fault stands some = cc
-  short-rows left given (Done wrong) fault stands some = elim (cases_Bool (nat_lt (length given) count)) [
-    | inl short ↦ (stands.1 ∙ ap (option_map but_line_in) (rw short at some), ap (λ (rows : List (List Text)). nat_lt (length rows) count) (sym stands.0) ∙ short)
+  pub short-rows : (given : List (List Text)) (reading : Reading) (fault : InputFault) → GoesTo given reading rows wrong → wrong_within count (length given) reading ≡ Some fault
+      → (wrong ≡ Some (but_line_in fault)) × (nat_lt (length rows) count ≡ true)
+  short-rows given (More reader) fault goes some = cc
+  short-rows given (Stored table) fault goes some = cc
+  short-rows given (Done found) fault goes some = elim (cases_Bool (nat_lt (length given) count)) [
+    | inl short ↦ (goes.1 ∙ ap (option_map but_line_in) (rw short at some), ap (λ (rs : List (List Text)). nat_lt (length rs) count) (sym goes.0) ∙ short)
     | inr long ↦ let none : None ≡ Some fault = (rw long at some) in cc
   ]
 
   -- there are none
-  pub no-rows : (left : Option (List ℕ)) (given : List (List Text)) (reading : Reading) → 0 < count → length given ≡ 0 → IsEnough count given reading → Stands format records all left given reading → wrong_within count (length given) reading ≡ None
-      → (length (sound_rows format records all) ≡ 0) × (wrong_in format records all ≡ None)
-  no-rows left given (More reader) some nothing enough stands none = absurd (omega (arith, some, nothing, enough))
-  no-rows left given (Done None) some nothing enough stands none = (sym (ap length stands.0) ∙ nothing, stands.1)
-  no-rows left given (Done (Some fault)) some nothing enough stands none =
-      let long = open-rows left given (Done (Some fault)) enough stands none in
-      elim (cases_Bool (nat_lt (length given) count)) [
-        | inl short ↦ let wrong : Some fault ≡ None = (rw short at none) in cc
-        | inr past ↦ absurd (omega (arith, some, nothing, ltb-false (length given) count past))
-      ]
+  pub no-rows : (given : List (List Text)) (reading : Reading) → 0 < count → length given ≡ 0 → IsEnough count given reading → GoesTo given reading rows wrong → wrong_within count (length given) reading ≡ None
+      → (length rows ≡ 0) × (wrong ≡ None)
+  no-rows given (More reader) some nothing enough goes none = absurd (omega (arith, some, nothing, enough))
+  no-rows given (Stored table) some nothing enough goes none = absurd (omega (arith, some, nothing, enough))
+  no-rows given (Done None) some nothing enough goes none = (sym (ap length goes.0) ∙ nothing, goes.1)
+  no-rows given (Done (Some fault)) some nothing enough goes none = elim (cases_Bool (nat_lt (length given) count)) [
+    | inl short ↦ let bad : Some fault ≡ None = (rw short at none) in cc
+    | inr past ↦ absurd (omega (arith, some, nothing, ltb-false (length given) count past))
+  ]
 
   -- some are
-  pub some-rows : (left : Option (List ℕ)) (given : List (List Text)) (reading : Reading) → 0 < length given → Stands format records all left given reading → (length (sound_rows format records all) == 0) ≡ false
-  some-rows left given reading some stands =
-      let (more, whole) = stands-begin format records all left given reading stands in
-      let long : length given + length more ≡ length (sound_rows format records all) = sym (length-append given more) ∙ ap length whole in
-      elim (cases_Bool (length (sound_rows format records all) == 0)) [
-        | inl none ↦ absurd (omega (arith, some, long, eqb-true (length (sound_rows format records all)) 0 none))
+  pub some-rows : (given : List (List Text)) (reading : Reading) → 0 < length given → GoesTo given reading rows wrong → (length rows == 0) ≡ false
+  some-rows given reading some goes =
+      let (more, whole) = goes-behind given reading rows wrong goes in
+      let long : length given + length more ≡ length rows = sym (length-append given more) ∙ ap length whole in
+      elim (cases_Bool (length rows == 0)) [
+        | inl none ↦ absurd (omega (arith, some, long, eqb-true (length rows) 0 none))
         | inr others ↦ others
       ]
 
   -- those that are given are the first of all
-  pub first-rows : (left : Option (List ℕ)) (given : List (List Text)) (reading : Reading) → IsEnough count given reading → Stands format records all left given reading → take count given ≡ take count (sound_rows format records all)
-  first-rows left given (More reader) enough stands =
-      let (more, whole) = stands-begin format records all left given (More reader) stands in
-      sym (take-append-le count given more enough) ∙ ap (take count) whole
-  first-rows left given (Done wrong) enough stands = ap (take count) stands.0
+  pub first-rows : (given : List (List Text)) (reading : Reading) → IsEnough count given reading → GoesTo given reading rows wrong → take count given ≡ take count rows
+  first-rows given (More reader) enough (more, whole) = sym (take-append-le count given more enough) ∙ ap (take count) whole
+  first-rows given (Stored table) enough (more, whole) = sym (take-append-le count given more enough) ∙ ap (take count) whole
+  first-rows given (Done found) enough goes = ap (take count) goes.0
 
 -- ---- what is shown
 

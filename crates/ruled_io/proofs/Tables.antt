@@ -1,33 +1,156 @@
--- Tables whose lines are written one row after another.
-use Rattle.std.proofs.Common.{◌≡◌, ◌∙◌, inl, inr, ◌+◌, ◌<◌, ℕ, List, [], ◌∷◌, ◌++◌, Option, Some, None, Result, Ok, Err, OnErr, OnOk, false, true, length, drop, get_or, refl, sym, ap, subst, append-nil, append_assoc}
-use Rattle.std.specs.Prelude.{IfErr, is_ok, option_map}
+-- What is read row by row, and tables whose lines are written one row after another.
+use Rattle.std.proofs.Common.{◌≡◌, ◌∙◌, inl, inr, ◌+◌, ◌<◌, ℕ, List, [], ◌∷◌, ◌++◌, Option, Some, None, Result, Ok, Err, OnErr, OnOk, false, true, length, drop, get_or, refl, sym, ap}
+use Rattle.std.proofs.Common.{subst, append-nil, append_assoc, Bool}
+use Rattle.std.specs.Prelude.{IfErr, is_ok, option_map, IfOk}
 use Rattle.std.specs.Io.KnownBytes.{Appends, Keeps}
 use Rattle.std.specs.Result.{IsErrAnd}
 use Rattle.std.proofs.KnownBytes.{Appends-trans, Keeps-refl}
 use Rattle.std.proofs.lemmas.Bool.{true≢false}
 use Rattle.std.proofs.lemmas.List.{drop_more}
 use Rattle.pg_layout.specs.Text.{Text}
-use Rattle.ruled_json.specs.Streamed.{LineRules}
 use Rattle.ruled_table.specs.RowLines.{HasAppended, GrowsTo, HasNoRoom, TellsRoom, begun_text}
 use Rattle.ruled_table.specs.Layouts.{whole_text, Plan}
 use Rattle.ruled_table.specs.declared.view.ViewFault.{ViewFault}
 use Rattle.ruled_table.specs.declared.view.ViewFault.TheVariants as view
 use Rattle.ruled_table.specs.declared.options.Options.{Options}
 use Rattle.ruled_table.specs.declared.table_rows.TableRows.{TableRows}
-use Rattle.ruled_io.specs.Faults.{IsOfRead, but_line, but_line_in, is_failure, is_of_write, of_view, Begins}
-use Rattle.ruled_io.specs.Reading.{GoesOn, Stands, sound_rows, wrong_in}
-use Rattle.ruled_io.specs.Steps.{EndsBelow, FailsIn, Grows, Nears, StopsIn, WritesBut, WritesRows}
-use Rattle.ruled_io.specs.Stream.{lines_in}
+use Rattle.ruled_io.specs.Faults.{IsOfRead, but_line, but_line_in, is_failure, is_of_write, of_view, Begins, fault_of_database}
+use Rattle.ruled_io.specs.Reading.{GivesMore, GoesTo, Origin, StandsIn, GivesStored, GoesOn, IsHeld, IsTable, Stands, in_format, of_table, sound_rows, wrong_in}
+use Rattle.ruled_io.specs.Stream.{EndsBelow, EndsSo, FailsIn, Grows, Nears, StopsIn, WritesBut, WritesRows, lines_in}
 use Rattle.ruled_io.specs.declared.fault.InputFault.{InputFault}
 use Rattle.ruled_io.specs.declared.fault.InputFault.TheVariants.{Totals}
 use Rattle.ruled_io.specs.declared.fault.RunFault.{RunFault}
 use Rattle.ruled_io.specs.declared.fault.RunFault.TheVariants.{Input, Read, Closed, Write}
+use Rattle.ruled_io.specs.declared.reader.Reading.{Reading}
+use Rattle.ruled_io.specs.declared.reader.Reading.TheVariants.{Done, More, Stored}
+use Rattle.ruled_io.proofs.Fronts.{begins-behind, begun-on, begun-whole, grows-kept, grows-more, grows-nears, grows-none, nears-more, nears-none, nears-on, stands-to}
+use Rattle.ruled_io.proofs.Causes.{of-read}
+use Rattle.ruled_json.specs.Streamed.{LineRules}
+use Rattle.ruled_database.specs.Listings.{AreTable, AreRead, HasRead, PushesRows}
+use Rattle.ruled_database.specs.declared.fault.DatabaseFault.{DatabaseFault}
+use Rattle.ruled_database.specs.declared.table.TableReader.{TableReader}
+use Rattle.ruled_database.specs.declared.fault.DatabaseFault.TheVariants.{Table}
+use Rattle.ruled_database.specs.declared.fault.DatabaseFault.TheVariants as database
+use Rattle.ruled_database.specs.declared.fault.TableFault.{TableFault}
+use Rattle.ruled_database.specs.declared.fault.TableFault.TheVariants as table_fault
+use Rattle.ruled_database.proofs.Reading.{read-first}
+use Rattle.ruled_io.specs.declared.fault.InputFault.TheVariants as input
 use Rattle.ruled_io.specs.declared.formats.Format.{Format}
 use Rattle.ruled_io.specs.declared.reader.Reader.{Reader}
-use Rattle.ruled_io.specs.declared.reader.Reading.{Reading}
-use Rattle.ruled_io.specs.declared.reader.Reading.TheVariants.{More, Done}
-use Rattle.ruled_io.proofs.Fronts.{begins-behind, begun-on, begun-whole, grows-kept, grows-more, grows-nears, grows-none, nears-more, nears-none, nears-on, stands-begin}
-use Rattle.ruled_io.proofs.Causes.{of-read}
+
+-- ---- what is read row by row
+
+-- some rows are those that a reading goes to; of a table that is read in part, those that were given, as where memory is refused
+pub goes-to : (origin : Origin) (left : Option (List ℕ)) (given : List (List Text)) (reading : Reading) → StandsIn origin left given reading
+    → (rows : List (List Text)) × (wrong : Option InputFault) × IsHeld origin rows wrong × GoesTo given reading rows wrong
+goes-to (in_format format rules all) left given reading stands = (sound_rows format rules all, wrong_in format rules all, (refl, refl), stands-to format rules all left given reading stands)
+goes-to (of_table file name null_text) left given (More reader) stands = absurd stands
+goes-to (of_table file name null_text) left given (Stored table) stands =
+    (given, Some input.Memory, (Some (Table table_fault.Memory), refl, inr (read-first file name null_text given table stands, tt)), ([], append-nil given))
+goes-to (of_table file name null_text) left given (Done fault) stands = (given, option_map but_line_in fault, stands, (refl, refl))
+
+-- no row was read, as where memory is refused before
+pub none-read : (file name null_text : List ℕ) → IsTable file name null_text [] (Some input.Memory)
+none-read file name null_text = (Some (Table table_fault.Memory), refl, inl (refl, tt))
+
+-- nothing is wrong with all
+all-of : (file name null_text : List ℕ) (rows : List (List Text)) (fault : Option DatabaseFault) → None ≡ option_map fault_of_database fault → AreRead file name null_text rows fault → AreTable None file name null_text rows
+all-of file name null_text rows None is read = read
+all-of file name null_text rows (Some fault) is read = absurd (cc)
+
+pub all-read : (file name null_text : List ℕ) (rows : List (List Text)) → IsTable file name null_text rows None → AreTable None file name null_text rows
+all-read file name null_text rows (fault, is, read) = all-of file name null_text rows fault is read
+
+-- where no more are left, they are all
+pub done-held : (origin : Origin) (left : Option (List ℕ)) (given : List (List Text)) (fault : Option InputFault) → StandsIn origin left given (Done fault) → IsHeld origin given (option_map but_line_in fault)
+done-held (in_format format rules all) left given fault (is, told) = (is, sym told)
+done-held (of_table file name null_text) left given fault stands = stands
+
+-- they begin with those that were given
+pub goes-behind : (given : List (List Text)) (reading : Reading) (rows : List (List Text)) (wrong : Option InputFault) → GoesTo given reading rows wrong → (more : List (List Text)) × (given ++ more ≡ rows)
+goes-behind given (More reader) rows wrong goes = goes
+goes-behind given (Stored table) rows wrong goes = goes
+goes-behind given (Done fault) rows wrong (is, told) = ([], append-nil given ∙ is)
+
+-- also where more were given
+pub goes-longer : (given more : List (List Text)) (reading : Reading) (rows : List (List Text)) (wrong : Option InputFault) → GoesTo (given ++ more) reading rows wrong → (behind : List (List Text)) × (given ++ behind ≡ rows)
+goes-longer given more reading rows wrong goes =
+    let (behind, is) = goes-behind (given ++ more) reading rows wrong goes in
+    (more ++ behind, sym (append_assoc given more behind) ∙ is)
+
+-- of an input in a format a reader of bytes gives more, of a table one of rows
+pub reader-gives : (origin : Origin) (before left : Option (List ℕ)) (given old new : List (List Text)) (reader : Reader) (result : Result Reading RunFault) → StandsIn origin before given (More reader)
+    → ((format : Format) (rules : LineRules) (all : List ℕ) → Stands format rules all before given (More reader) → IfOk result (GoesOn format rules all left given old new)) → IfOk result (GivesMore origin left given (More reader) old new)
+reader-gives (in_format format rules all) before left given old new reader (Ok now) stands goes =
+    let (more, is, next) = goes format rules all stands in
+    (more, is, next, goes-longer given more now)
+reader-gives (of_table file name null_text) before left given old new reader (Ok now) stands goes = absurd stands
+reader-gives origin before left given old new reader (Err fault) stands goes = tt
+
+pub table-gives : (origin : Origin) (left : Option (List ℕ)) (given old new : List (List Text)) (table : TableReader) (now : Reading) → StandsIn origin left given (Stored table)
+    → ((file name null_text : List ℕ) → HasRead file name null_text given table → GivesStored file name null_text given old new now) → GivesMore origin left given (Stored table) old new now
+table-gives (in_format format rules all) left given old new table now stands gives = absurd stands
+table-gives (of_table file name null_text) left given old new table now stands gives =
+    let (more, is, next) = gives file name null_text stands in
+    (more, is, next, goes-longer given more now)
+
+-- none are left
+pub done-gives : (origin : Origin) (left : Option (List ℕ)) (given old : List (List Text)) (fault : Option InputFault) → StandsIn origin left given (Done fault) → GivesMore origin left given (Done fault) old old (Done fault)
+done-gives origin left given old fault stands = (
+  [],
+  sym (append-nil old),
+  subst (λ (xs : List (List Text)). StandsIn origin left xs (Done fault)) (sym (append-nil given)) stands,
+  λ rows wrong to. subst (λ (xs : List (List Text)). GoesTo xs (Done fault) rows wrong) (append-nil given) to,
+)
+
+-- what was given in place of no rows
+pub more-given : (origin : Origin) (left : Option (List ℕ)) (given : List (List Text)) (reading : Reading) (old new : List (List Text)) (now : Reading) → old ≡ [] → GivesMore origin left given reading old new now
+    → StandsIn origin left (given ++ new) now × ((rows : List (List Text)) (wrong : Option InputFault) → GoesTo (given ++ new) now rows wrong → GoesTo given reading rows wrong)
+more-given origin left given reading old new now none (more, is, stands, goes) =
+    subst (λ (xs : List (List Text)). StandsIn origin left (given ++ xs) now × ((rows : List (List Text)) (wrong : Option InputFault) → GoesTo (given ++ xs) now rows wrong → GoesTo given reading rows wrong))
+    (sym (is ∙ ap (λ (xs : List (List Text)). xs ++ more) none)) (stands, goes)
+
+-- ---- a reader of a table, by what it tells
+
+-- a fault of a database has no line
+pub database-line : (fault : DatabaseFault) → but_line_in (fault_of_database fault) ≡ fault_of_database fault
+database-line database.Database = refl
+database-line database.Encoding = refl
+database-line database.Absent = refl
+database-line database.Elsewhere = refl
+database-line database.Keyed = refl
+database-line database.Computed = refl
+database-line (database.Schema table_fault.Damage) = refl
+database-line (database.Schema table_fault.Default) = refl
+database-line (database.Schema (table_fault.Encoding row)) = refl
+database-line (database.Schema table_fault.Memory) = refl
+database-line (Table table_fault.Damage) = refl
+database-line (Table table_fault.Default) = refl
+database-line (Table (table_fault.Encoding row)) = refl
+database-line (Table table_fault.Memory) = refl
+
+module _ (file name null_text : List ℕ) (count : ℕ) (given old new : List (List Text)) (reader : TableReader) where
+  -- more rows may be left
+  pub stored-more : (result : Result Bool TableFault) → result ≡ Ok true → PushesRows file name null_text count given old new reader result → GivesStored file name null_text given old new (Stored reader)
+  stored-more (Ok true) is (rows, (added, few, first), long, read) = (rows, added, read)
+  stored-more (Ok false) is pushes = absurd (cc)
+  stored-more (Err fault) is pushes = absurd (cc)
+
+  -- none are
+  pub stored-all : (result : Result Bool TableFault) → result ≡ Ok false → PushesRows file name null_text count given old new reader result → GivesStored file name null_text given old new (Done None)
+  stored-all (Ok true) is pushes = absurd (cc)
+  stored-all (Ok false) is (rows, (added, few, first), table) = (rows, added, (None, refl, table))
+  stored-all (Err fault) is pushes = absurd (cc)
+
+  -- the next one isn't shown
+  pub stored-wrong : (result : Result Bool TableFault) (found : TableFault) (told : InputFault) → result ≡ Err found → told ≡ fault_of_database (Table found) → PushesRows file name null_text count given old new reader result
+      → GivesStored file name null_text given old new (Done (Some told))
+  stored-wrong (Ok true) found told is same pushes = absurd (cc)
+  stored-wrong (Ok false) found told is same pushes = absurd (cc)
+  stored-wrong (Err fault) found told is same (rows, (added, few, first), lacks) =
+      let one : fault ≡ found = cc in
+      let line : but_line_in told ≡ fault_of_database (Table fault) = ap but_line_in same ∙ database-line (Table found) ∙ ap (λ (f : TableFault). fault_of_database (Table f)) (sym one) in
+      (rows, added, (Some (Table fault), ap (λ (f : InputFault). Some f) line, inr (first, lacks)))
 
 -- ---- faults
 
@@ -216,104 +339,124 @@ module _ (options : Options) (plan : Plan) where
   lines-begin above table rows None has = begun-whole options plan above table rows has
   lines-begin above table rows (Some fault) has = ([], append-nil (begun_text options plan rows))
 
-  module _ (format : Format) (records : LineRules) (all : List ℕ) where
-    abbrev sound : List (List Text)
-    sound = sound_rows format records all
-
-    abbrev wrong : Option InputFault
-    wrong = wrong_in format records all
-
-    begins-all : (above given : List (List Text)) (table : TableRows) (left : Option (List ℕ)) (reading : Reading) → HasAppended options plan above table → Stands format records all left given reading → (x : Text) × (begun_text options plan given ++ x ≡ lines_in options plan sound wrong)
-    begins-all above given table left reading has stands =
-        let (more, whole) = stands-begin format records all left given reading stands in
+  module _ (origin : Origin) where
+    begins-all : (above given : List (List Text)) (table : TableRows) (reading : Reading) (all : List (List Text)) (wrong : Option InputFault) → HasAppended options plan above table → GoesTo given reading all wrong → (x : Text) × (begun_text options plan given ++ x ≡ lines_in options plan all wrong)
+    begins-all above given table reading all wrong has goes =
+        let (more, whole) = goes-behind given reading all wrong goes in
         let (x, is) = begun-on options plan above table given more has in
-        let (y, last) = lines-begin above table sound wrong has in
+        let (y, last) = lines-begin above table all wrong has in
         (x ++ y, sym (append_assoc (begun_text options plan given) x y) ∙ ap (λ (t : Text). t ++ y) (is ∙ ap (begun_text options plan) whole) ∙ last)
 
-    -- a table has some rows of an input, and others were given
-    abbrev pub Runs : List (List Text) → Option (List ℕ) → Reading → List (List Text) → TableRows → Option (List ℕ) → Option (List ℕ) → Type 0
-    Runs above left reading rows table old new = (done : List (List Text)) × Stands format records all left (done ++ rows) reading × HasAppended options plan done table × Grows (begun_text options plan above) (begun_text options plan done) old new
+    module _ (first : List (List Text)) (begun : Reading) where
+      -- a table has some rows of those that a reading goes to, and others were given
+      abbrev pub Runs : List (List Text) → Option (List ℕ) → Reading → List (List Text) → TableRows → Option (List ℕ) → Option (List ℕ) → Type 0
+      Runs above left reading rows table old new =
+          (done : List (List Text)) × StandsIn origin left (done ++ rows) reading × HasAppended options plan done table × Grows (begun_text options plan above) (begun_text options plan done) old new
+          × ((all : List (List Text)) (wrong : Option InputFault) → GoesTo (done ++ rows) reading all wrong → GoesTo first begun all wrong)
 
-    pub runs-begin : (above rows : List (List Text)) (left : Option (List ℕ)) (reading : Reading) (table : TableRows) (old : Option (List ℕ)) → Stands format records all left (above ++ rows) reading → HasAppended options plan above table → Runs above left reading rows table old old
-    runs-begin above rows left reading table old stands has = (above, stands, has, grows-none (begun_text options plan above) old old (Keeps-refl old))
+      -- the rows that were given are written
+      pub runs-wrote : (above rows : List (List Text)) (left : Option (List ℕ)) (reading : Reading) (table next : TableRows) (old mid new : Option (List ℕ))
+          → ((done : List (List Text)) → HasAppended options plan done table → HasAppended options plan (done ++ rows) next)
+          → ((done : List (List Text)) → HasAppended options plan done table → WritesRows options plan done rows mid new) → Runs above left reading rows table old mid → Runs above left reading [] next old new
+      runs-wrote above rows left reading table next old mid new after written (done, stands, has, grows, goes) = (
+        done ++ rows,
+        subst (λ (given : List (List Text)). StandsIn origin left given reading) (sym (append-nil (done ++ rows))) stands,
+        after done has,
+        grows-more _ (begun_text options plan done) _ old mid new grows (written done has),
+        λ all wrong to. goes all wrong (subst (λ (given : List (List Text)). GoesTo given reading all wrong) (append-nil (done ++ rows)) to),
+      )
 
-    -- the rows that were given are written
-    pub runs-wrote : (above rows : List (List Text)) (left : Option (List ℕ)) (reading : Reading) (table next : TableRows) (old mid new : Option (List ℕ))
-        → ((done : List (List Text)) → HasAppended options plan done table → HasAppended options plan (done ++ rows) next)
-        → ((done : List (List Text)) → HasAppended options plan done table → WritesRows options plan done rows mid new) → Runs above left reading rows table old mid → Runs above left reading [] next old new
-    runs-wrote above rows left reading table next old mid new after written (done, stands, has, grows) = (
-      done ++ rows,
-      subst (λ (given : List (List Text)). Stands format records all left given reading) (sym (append-nil (done ++ rows))) stands,
-      after done has,
-      grows-more _ (begun_text options plan done) _ old mid new grows (written done has),
-    )
+      -- one of them isn't
+      pub runs-stop : {X : Type 0} (above rows : List (List Text)) (left : Option (List ℕ)) (reading : Reading) (table : TableRows) (old mid new : Option (List ℕ)) (found : RunFault) (result : Result X RunFault)
+          → IsErrAnd result (λ fault. fault ≡ found) → ((done : List (List Text)) → HasAppended options plan done table → FailsIn options plan done rows mid new found) → Runs above left reading rows table old mid
+          → EndsSo options plan origin first begun above old new result
+      runs-stop above rows left reading table old mid new found (Ok x) is fails runs = absurd is
+      runs-stop above rows left reading table old mid new found (Err fault) is fails (done, stands, has, grows, goes) =
+          let (near, stops) = fails done has in
+          let (all, wrong, held, to) = goes-to origin left (done ++ rows) reading stands in
+          let (more, whole) = goes-behind (done ++ rows) reading all wrong to in (
+            all,
+            wrong,
+            held,
+            goes all wrong to,
+            (
+              nears-on _ (begun_text options plan (done ++ rows)) _ old new (nears-more _ (begun_text options plan done) _ old mid new grows near) (begins-all done (done ++ rows) table reading all wrong has to),
+              λ soft.
+                  let (totals, (front, behind, row, parts, room, wrote)) = stops (ap is_failure (sym is) ∙ soft) in
+                  inr (
+                    is ∙ totals,
+                    (
+                      done ++ front,
+                      behind ++ more,
+                      row,
+                      sym whole ∙ ap (λ (xs : List (List Text)). (done ++ xs) ++ more) parts ∙ ap (λ (xs : List (List Text)). xs ++ more) (sym (append_assoc done front (row ∷ behind))) ∙ append_assoc (done ++ front) (row ∷ behind) more,
+                      room,
+                      grows-more _ (begun_text options plan done) _ old mid new grows wrote,
+                    ),
+                  ),
+            ),
+          )
 
-    -- one of them isn't
-    pub runs-stop : {X : Type 0} (above rows : List (List Text)) (left : Option (List ℕ)) (reading : Reading) (table : TableRows) (old mid new : Option (List ℕ)) (found : RunFault) (result : Result X RunFault)
-        → IsErrAnd result (λ fault. fault ≡ found) → ((done : List (List Text)) → HasAppended options plan done table → FailsIn options plan done rows mid new found) → Runs above left reading rows table old mid
-        → EndsBelow options plan sound wrong above old new result
-    runs-stop above rows left reading table old mid new found (Ok x) is fails runs = absurd is
-    runs-stop above rows left reading table old mid new found (Err fault) is fails (done, stands, has, grows) =
-        let (near, stops) = fails done has in
-        let (more, whole) = stands-begin format records all left (done ++ rows) reading stands in (
-          nears-on _ (begun_text options plan (done ++ rows)) _ old new (nears-more _ (begun_text options plan done) _ old mid new grows near) (begins-all done (done ++ rows) table left reading has stands),
-          λ soft.
-              let (totals, (front, behind, row, parts, room, wrote)) = stops (ap is_failure (sym is) ∙ soft) in
-              inr (
-                is ∙ totals,
-                (
-                  done ++ front,
-                  behind ++ more,
-                  row,
-                  sym whole ∙ ap (λ (xs : List (List Text)). (done ++ xs) ++ more) parts ∙ ap (λ (xs : List (List Text)). xs ++ more) (sym (append_assoc done front (row ∷ behind))) ∙ append_assoc (done ++ front) (row ∷ behind) more,
-                  room,
-                  grows-more _ (begun_text options plan done) _ old mid new grows wrote,
-                ),
-              ),
-        )
+      -- memory, a read or a write failed
+      pub runs-fail : {X : Type 0} (above rows : List (List Text)) (left : Option (List ℕ)) (reading : Reading) (table : TableRows) (old mid new : Option (List ℕ)) (found : RunFault) (result : Result X RunFault)
+          → IsErrAnd result (λ fault. fault ≡ found) → is_failure found ≡ true → Keeps mid new → Runs above left reading rows table old mid → EndsSo options plan origin first begun above old new result
+      runs-fail above rows left reading table old mid new found (Ok x) is failed kept runs = absurd is
+      runs-fail above rows left reading table old mid new found (Err fault) is failed kept (done, stands, has, grows, goes) =
+          let (all, wrong, held, to) = goes-to origin left (done ++ rows) reading stands in
+          let (x, more) = begun-on options plan done table done rows has in
+          let (y, last) = begins-all done (done ++ rows) table reading all wrong has to in (
+            all,
+            wrong,
+            held,
+            goes all wrong to,
+            (
+              nears-on _ (begun_text options plan done) _ old new (grows-nears _ _ old new (grows-kept _ _ old mid new grows kept))
+                  (x ++ y, sym (append_assoc (begun_text options plan done) x y) ∙ ap (λ (t : Text). t ++ y) more ∙ last),
+              λ soft. absurd (true≢false (sym failed ∙ sym (ap is_failure is) ∙ soft)),
+            ),
+          )
 
-    -- memory, a read or a write failed
-    pub runs-fail : {X : Type 0} (above rows : List (List Text)) (left : Option (List ℕ)) (reading : Reading) (table : TableRows) (old mid new : Option (List ℕ)) (found : RunFault) (result : Result X RunFault)
-        → IsErrAnd result (λ fault. fault ≡ found) → is_failure found ≡ true → Keeps mid new → Runs above left reading rows table old mid → EndsBelow options plan sound wrong above old new result
-    runs-fail above rows left reading table old mid new found (Ok x) is failed kept runs = absurd is
-    runs-fail above rows left reading table old mid new found (Err fault) is failed kept (done, stands, has, grows) =
-        let (x, more) = begun-on options plan done table done rows has in
-        let (y, last) = begins-all done (done ++ rows) table left reading has stands in (
-          nears-on _ (begun_text options plan done) _ old new (grows-nears _ _ old new (grows-kept _ _ old mid new grows kept))
-              (x ++ y, sym (append_assoc (begun_text options plan done) x y) ∙ ap (λ (t : Text). t ++ y) more ∙ last),
-          λ soft. absurd (true≢false (sym failed ∙ sym (ap is_failure is) ∙ soft)),
-        )
+      -- more rows are given
+      pub runs-on : (above before after : List (List Text)) (left later : Option (List ℕ)) (reading now : Reading) (table : TableRows) (old mid new : Option (List ℕ)) → before ≡ [] → Keeps mid new
+          → ((given : List (List Text)) → StandsIn origin left given reading → GivesMore origin later given reading before after now) → Runs above left reading [] table old mid → Runs above later now after table old new
+      runs-on above before after left later reading now table old mid new none kept gives (done, stands, has, grows, goes) =
+          let given : done ++ [] ≡ done = append-nil done in
+          let (next, longer) = more-given origin later done reading before after now none (gives done (subst (λ (xs : List (List Text)). StandsIn origin left xs reading) given stands)) in (
+            done,
+            next,
+            has,
+            grows-kept _ _ old mid new grows kept,
+            λ all wrong to. goes all wrong (subst (λ (xs : List (List Text)). GoesTo xs reading all wrong) (sym given) (longer all wrong to)),
+          )
 
-    -- more rows are given
-    pub runs-on : (above before after : List (List Text)) (left later : Option (List ℕ)) (reader : Reader) (now : Reading) (table : TableRows) (old mid new : Option (List ℕ)) → before ≡ [] → Keeps mid new
-        → ((given : List (List Text)) → Stands format records all left given (More reader) → GoesOn format records all later given before after now) → Runs above left (More reader) [] table old mid → Runs above later now after table old new
-    runs-on above before after left later reader now table old mid new none kept goes (done, stands, has, grows) =
-        let (more, grown, next) = goes done (subst (λ (given : List (List Text)). Stands format records all left given (More reader)) (append-nil done) stands) in
-        let same : more ≡ after = sym (grown ∙ ap (λ (xs : List (List Text)). xs ++ more) none) in
-        (done, subst (λ (xs : List (List Text)). Stands format records all later (done ++ xs) now) same next, has, grows-kept _ _ old mid new grows kept)
+      -- what is below these rows ends as told
+      below : {X : Type 0} (all : List (List Text)) (wrong : Option InputFault) (above done : List (List Text)) (old mid new : Option (List ℕ)) (result : Result X RunFault) → Grows (begun_text options plan above) (begun_text options plan done) old mid
+          → EndsBelow options plan all wrong done mid new result → EndsBelow options plan all wrong above old new result
+      below all wrong above done old mid new (Ok x) grows (none, wrote) = (none, grows-more _ (begun_text options plan done) _ old mid new grows wrote)
+      below all wrong above done old mid new (Err fault) grows (near, cause) = (
+        nears-more _ (begun_text options plan done) _ old mid new grows near,
+        λ soft. elim (cause soft) [
+          | inl told ↦ inl (told.0, grows-more _ (begun_text options plan done) _ old mid new grows told.1)
+          | inr short ↦
+              let (totals, (front, behind, row, parts, room, wrote)) = short in
+              inr (totals, (front, behind, row, parts, room, grows-more _ (begun_text options plan done) _ old mid new grows wrote))
+        ],
+      )
 
-    -- what is below these rows ends as told
-    below : {X : Type 0} (above done : List (List Text)) (old mid new : Option (List ℕ)) (result : Result X RunFault) → Grows (begun_text options plan above) (begun_text options plan done) old mid
-        → EndsBelow options plan sound wrong done mid new result → EndsBelow options plan sound wrong above old new result
-    below above done old mid new (Ok x) grows (none, wrote) = (none, grows-more _ (begun_text options plan done) _ old mid new grows wrote)
-    below above done old mid new (Err fault) grows (near, cause) = (
-      nears-more _ (begun_text options plan done) _ old mid new grows near,
-      λ soft. elim (cause soft) [
-        | inl told ↦ inl (told.0, grows-more _ (begun_text options plan done) _ old mid new grows told.1)
-        | inr short ↦
-            let (totals, (front, behind, row, parts, room, wrote)) = short in
-            inr (totals, (front, behind, row, parts, room, grows-more _ (begun_text options plan done) _ old mid new grows wrote))
-      ],
-    )
+      -- all are given
+      pub runs-end : {X : Type 0} (above : List (List Text)) (left : Option (List ℕ)) (reading : Reading) (last : Option InputFault) (table : TableRows) (old mid new : Option (List ℕ)) (result : Result X RunFault) → reading ≡ Done last
+          → ((rows : List (List Text)) → HasAppended options plan rows table → EndsBelow options plan rows (option_map but_line_in last) rows mid new result) → Runs above left reading [] table old mid
+          → EndsSo options plan origin first begun above old new result
+      runs-end above left reading last table old mid new result is ends (done, stands, has, grows, goes) =
+          let same : done ++ [] ≡ done = append-nil done in
+          let here = subst (λ (xs : List (List Text)). StandsIn origin left xs (Done last)) same (subst (StandsIn origin left (done ++ [])) is stands) in (
+            done,
+            option_map but_line_in last,
+            done-held origin left done last here,
+            goes done (option_map but_line_in last) (subst (λ (r : Reading). GoesTo (done ++ []) r done (option_map but_line_in last)) (sym is) (same, refl)),
+            below done (option_map but_line_in last) above done old mid new result grows (ends done has),
+          )
 
-    -- all are given
-    pub runs-end : {X : Type 0} (above : List (List Text)) (left : Option (List ℕ)) (reading : Reading) (last : Option InputFault) (table : TableRows) (old mid new : Option (List ℕ)) (result : Result X RunFault) → reading ≡ Done last
-        → ((rows : List (List Text)) → HasAppended options plan rows table → EndsBelow options plan rows (option_map but_line_in last) rows mid new result) → Runs above left reading [] table old mid
-        → EndsBelow options plan sound wrong above old new result
-    runs-end {X} above left reading last table old mid new result is ends (done, stands, has, grows) =
-        let (given, told) = subst (Stands format records all left (done ++ [])) is stands in
-        let same : done ≡ sound = sym (append-nil done) ∙ given in
-        let p : EndsBelow options plan sound (option_map but_line_in last) done mid new result =
-        subst (λ (rows : List (List Text)). EndsBelow options plan rows (option_map but_line_in last) done mid new result) same (ends done has)
-        in
-        below above done old mid new result grows (subst (λ (w : Option InputFault). EndsBelow options plan sound w done mid new result) (sym told) p)
+    pub runs-begin : (above rows : List (List Text)) (left : Option (List ℕ)) (reading : Reading) (table : TableRows) (old : Option (List ℕ)) → StandsIn origin left (above ++ rows) reading → HasAppended options plan above table
+        → Runs (above ++ rows) reading above left reading rows table old old
+    runs-begin above rows left reading table old stands has = (above, stands, has, grows-none (begun_text options plan above) old old (Keeps-refl old), λ all wrong to. to)

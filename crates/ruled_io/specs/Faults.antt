@@ -244,7 +244,7 @@ fault_of_write write.Failed = Write
 
 abbrev pub streamed_fault_text : StreamedFault → List ℕ
 streamed_fault_text streamed.Value = codes "a single JSON value can't be streamed"
-streamed_fault_text streamed.Database = codes "a database can't be streamed"
+streamed_fault_text streamed.Database = codes "the list of tables can't be streamed; --table can"
 
 -- ---- names in error lines
 

@@ -1,5 +1,5 @@
 -- The rows that an input holds, those of several inputs, and those that are asked of a database.
-use Rattle.std.specs.Prelude.{ℕ, nat_lt, List, length, take, Option, Some, None, option_map, if◌then◌else◌, suc, ◌==◌, ◌&&◌, ◌||◌, Bool, false, [], ◌∷◌, ◌++◌, drop, map, ◌≡◌, ⊤}
+use Rattle.std.specs.Prelude.{ℕ, nat_lt, List, length, take, Option, Some, None, option_map, if◌then◌else◌, suc, ◌==◌, ◌&&◌, ◌||◌, Bool, [], ◌∷◌, ◌++◌, drop, map, ◌≡◌, ⊤}
 use Rattle.std.specs.Prelude.{string_bytes, ◌-◌}
 use Rattle.csv.specs.Reading.{strip_bom}
 use Rattle.pg_layout.specs.Text.{Text}
@@ -29,7 +29,6 @@ use Rattle.ruled_sql.specs.Answers.{AreAnswered, LacksRows}
 use Rattle.ruled_database.specs.Listings.{AreTable, IsListing, LacksListing, LacksTable}
 use Rattle.ruled_database.specs.declared.fault.DatabaseFault.{DatabaseFault}
 use Rattle.ruled_sql.specs.declared.fault.SqlFault.{SqlFault}
-use Rattle.ruled_sql.specs.declared.fault.SqlFault.TheVariants as sql
 use Rattle.ruled_io.specs.declared.fault.InputFault.TheVariants as input
 use Rattle.ruled_io.specs.declared.request.Selection.{Selection}
 use Rattle.ruled_io.specs.declared.request.Selection.TheVariants.{Query as Select, Table, Tables}

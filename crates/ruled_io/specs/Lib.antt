@@ -1,9 +1,7 @@
 pub mod Faults
 pub mod Formats
 pub mod Input
-pub mod Laws
 pub mod Reading
 pub mod Requests
 pub mod Runs
-pub mod Steps
 pub mod Stream

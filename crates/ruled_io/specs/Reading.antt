@@ -6,9 +6,11 @@ use Rattle.ruled_csv.specs.Faults as csv_faults
 use Rattle.ruled_csv.specs.Reading as csv_reading
 use Rattle.ruled_csv.specs.Rows as csv_rows
 use Rattle.ruled_csv.specs.declared.dialect.Dialect.{Dialect}
+use Rattle.ruled_database.specs.Listings.{AreRead, HasRead}
+use Rattle.ruled_database.specs.declared.fault.DatabaseFault.{DatabaseFault}
 use Rattle.ruled_json.specs.Streamed as json_reading
 use Rattle.ruled_json.specs.Streamed.{LineRules}
-use Rattle.ruled_io.specs.Faults.{but_line_in, fault_of_json, fault_of_rows, is_read, read_part}
+use Rattle.ruled_io.specs.Faults.{but_line_in, fault_of_database, fault_of_json, fault_of_rows, is_read, read_part}
 use Rattle.ruled_io.specs.Formats.{content_of, format_shown, is_database, setting_of}
 use Rattle.ruled_io.specs.Requests.{format_told, holds_database}
 use Rattle.ruled_io.specs.declared.fault.InputFault.{InputFault}
@@ -24,7 +26,7 @@ use Rattle.ruled_io.specs.declared.request.Source.{Source}
 use Rattle.ruled_io.specs.declared.reader.Reader.{Reader}
 use Rattle.ruled_io.specs.declared.reader.Reader.TheVariants.{Rows, Lines}
 use Rattle.ruled_io.specs.declared.reader.Reading.{Reading}
-use Rattle.ruled_io.specs.declared.reader.Reading.TheVariants.{More, Done}
+use Rattle.ruled_io.specs.declared.reader.Reading.TheVariants.{More, Stored, Done}
 
 -- ---- a reader's bytes
 
@@ -77,12 +79,14 @@ module _ (format : Format) (rules : LineRules) (before bytes all : List ℕ) (ol
   -- it has read more bytes, and given the rows that are complete with them; or the input is bad, and it has given all above the first bad row
   abbrev pub Gives : Reading → Type 0
   Gives (More reader) = HasTaken format rules (before ++ bytes) reader × AppendsRest (ended_rows format rules before) (ended_rows format rules (before ++ bytes)) old new
+  Gives (Stored table) = ⊥
   Gives (Done wrong) = (wrong_in format rules all ≡ option_map but_line_in wrong) × AppendsRest (ended_rows format rules before) (sound_rows format rules all) old new
 
 -- it has given all rows above the first bad one, and tells what is wrong
 module _ (format : Format) (rules : LineRules) (bytes : List ℕ) (old new : List (List Text)) where
   abbrev pub Ends : Reading → Type 0
   Ends (More reader) = ⊥
+  Ends (Stored table) = ⊥
   Ends (Done wrong) = (wrong_in format rules bytes ≡ option_map but_line_in wrong) × AppendsRest (ended_rows format rules bytes) (sound_rows format rules bytes) old new
 
 -- ---- a reading
@@ -91,11 +95,58 @@ module _ (format : Format) (rules : LineRules) (bytes : List ℕ) (old new : Lis
 module _ (format : Format) (rules : LineRules) (all : List ℕ) (left : Option (List ℕ)) (given : List (List Text)) where
   abbrev pub Stands : Reading → Type 0
   Stands (More reader) = (before rest : List ℕ) × (all ≡ before ++ rest) × (left ≡ Some rest) × HasTaken format rules before reader × (given ≡ ended_rows format rules before)
+  Stands (Stored table) = ⊥
   Stands (Done wrong) = (given ≡ sound_rows format rules all) × (wrong_in format rules all ≡ option_map but_line_in wrong)
 
 -- a reading goes on with more rows behind the old ones
 abbrev pub GoesOn : Format → LineRules → List ℕ → Option (List ℕ) → List (List Text) → List (List Text) → List (List Text) → Reading → Type 0
 GoesOn format rules all left given old new reading = (more : List (List Text)) × (new ≡ old ++ more) × Stands format rules all left (given ++ more) reading
+
+-- ---- a table of a database
+
+module _ (file name null_text : List ℕ) where
+  -- its rows above the first one that can't be shown, and what is wrong with that; any of its first ones where memory was refused
+  abbrev pub IsTable : List (List Text) → Option InputFault → Type 0
+  IsTable rows wrong = (fault : Option DatabaseFault) × (wrong ≡ option_map fault_of_database fault) × AreRead file name null_text rows fault
+
+  -- these rows of it were given
+  abbrev pub StandsAt : List (List Text) → Reading → Type 0
+  StandsAt given (More reader) = ⊥
+  StandsAt given (Stored table) = HasRead file name null_text given table
+  StandsAt given (Done wrong) = IsTable given (option_map but_line_in wrong)
+
+  -- more are, behind the old rows
+  abbrev pub GivesStored : List (List Text) → List (List Text) → List (List Text) → Reading → Type 0
+  GivesStored given old new reading = (more : List (List Text)) × (new ≡ old ++ more) × StandsAt (given ++ more) reading
+
+-- ---- what is read row by row
+
+-- bytes in a format, or the table of a name of a database, where NULL is a text
+pub data Origin : Type 0 where
+  in_format : Format → LineRules → List ℕ → Origin
+  of_table : List ℕ → List ℕ → List ℕ → Origin
+
+-- its rows above the first bad one, and what is wrong with that
+abbrev pub IsHeld : Origin → List (List Text) → Option InputFault → Type 0
+IsHeld (in_format format rules all) rows wrong = (rows ≡ sound_rows format rules all) × (wrong ≡ wrong_in format rules all)
+IsHeld (of_table file name null_text) rows wrong = IsTable file name null_text rows wrong
+
+-- these of its rows were given
+abbrev pub StandsIn : Origin → Option (List ℕ) → List (List Text) → Reading → Type 0
+StandsIn (in_format format rules all) left given reading = Stands format rules all left given reading
+StandsIn (of_table file name null_text) left given reading = StandsAt file name null_text given reading
+
+-- rows begin with those that were given, and are these where no more are left
+abbrev pub GoesTo : List (List Text) → Reading → List (List Text) → Option InputFault → Type 0
+GoesTo given (More reader) rows wrong = (more : List (List Text)) × (given ++ more ≡ rows)
+GoesTo given (Stored table) rows wrong = (more : List (List Text)) × (given ++ more ≡ rows)
+GoesTo given (Done fault) rows wrong = (given ≡ rows) × (wrong ≡ option_map but_line_in fault)
+
+-- a reading has given more rows, behind the old ones, and goes on to no others
+abbrev pub GivesMore : Origin → Option (List ℕ) → List (List Text) → Reading → List (List Text) → List (List Text) → Reading → Type 0
+GivesMore origin left given reading old new now =
+    (more : List (List Text)) × (new ≡ old ++ more) × StandsIn origin left (given ++ more) now
+    × ((rows : List (List Text)) (wrong : Option InputFault) → GoesTo (given ++ more) now rows wrong → GoesTo given reading rows wrong)
 
 -- ---- the first bytes of an input
 

@@ -3,7 +3,7 @@ use Rattle.std.specs.Prelude.{ℕ, ◌-◌, ◌==◌, ◌&&◌, ◌||◌, ◌∷
 use Rattle.std.specs.List.{starts_with}
 use Rattle.pg_layout.specs.Text.{Text}
 use Rattle.ruled_csv.specs.declared.dialect.RowRules.{RowRules}
-use Rattle.ruled_database.specs.Files.{keeps_log}
+use Rattle.ruled_database.specs.Trees.{keeps_log}
 use Rattle.ruled_io.specs.Formats as formats
 use Rattle.ruled_json.specs.Rows.{Rules, plain_rules, rules_of}
 use Rattle.ruled_table.specs.Shown.{limit_of}

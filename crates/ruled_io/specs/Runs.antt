@@ -1,13 +1,13 @@
--- What a run shows of an input, and why it ends before.
-use Rattle.std.specs.Prelude.{◌≡◌, ◌⊎◌, ⊤, ℕ, Bool, true, false, List, Option, Some, None, option_map}
+-- What a run shows of an input, and why it ends before; and a law of runs: where all rows are among the first ones, a stream shows what is shown at once.
+use Rattle.std.specs.Prelude.{◌≡◌, ◌⊎◌, ⊤, ℕ, Bool, true, false, List, Option, Some, None, option_map, ◌≢◌, ◌≤◌, [], length}
 use Rattle.std.specs.Io.KnownBytes.{Keeps}
 use Rattle.pg_layout.specs.Text.{Text}
 use Rattle.ruled_table.specs.Arranged.{padded_rows}
 use Rattle.ruled_table.specs.View.{table_excess, table_fault, table_text}
 use Rattle.ruled_io.specs.Input.{AreSelected, LacksAnswer, LacksQueried, LacksStored, further_fault, joined, input_fault, rows_in}
-use Rattle.ruled_io.specs.Faults.{but_line_in, fault_of_view, is_memory, Begins}
+use Rattle.ruled_io.specs.Faults.{but_line_in, fault_of_view, is_memory, Begins, of_view}
 use Rattle.ruled_io.specs.Requests.{format_told, hides_rows, holds_database, inner_place, log_of, members_of, rows_needed, selection_of}
-use Rattle.ruled_io.specs.Stream.{StopsStream, streamed_fault, streamed_remarks, streamed_text, streamed_wrong}
+use Rattle.ruled_io.specs.Stream.{StopsStream, StreamsRemarks, StreamsText, AreStreamed, first_wrong, streamed_count, streamed_format}
 use Rattle.ruled_io.specs.declared.fault.InputFault.{InputFault}
 use Rattle.ruled_io.specs.declared.fault.InputFault.TheVariants as input
 use Rattle.ruled_io.specs.declared.fault.RunFault.{RunFault}
@@ -17,6 +17,13 @@ use Rattle.ruled_io.specs.declared.request.Request.{Request}
 use Rattle.ruled_io.specs.declared.request.Rows as rows
 use Rattle.ruled_io.specs.declared.request.Rows.TheVariants.{AtOnce, FromFirst}
 use Rattle.ruled_io.specs.declared.request.Source.{Source}
+use Rattle.ruled_table.specs.Shown.{colors_fields}
+use Rattle.ruled_table.specs.declared.options.Options.{Options}
+use Rattle.ruled_table.specs.declared.options.Vertical.TheVariants.{Never}
+use Rattle.ruled_io.specs.Formats.{format_in}
+use Rattle.ruled_io.specs.declared.formats.Format.TheVariants.{Json}
+use Rattle.ruled_io.specs.declared.request.Selection.{Selection}
+use Rattle.ruled_io.specs.declared.request.Selection.TheVariants.{Query, Table, Tables}
 
 -- ---- the rows of all bytes, or of the first of them where so many rows are needed
 
@@ -103,7 +110,7 @@ RemarksAll request bytes remarks = (rows : List (List Text)) × AreJoined reques
 -- the text that a run shows
 abbrev pub ShowsBy : rows.Rows → Request → List ℕ → Text → Type 0
 ShowsBy AtOnce request bytes text = ShowsAll request bytes text
-ShowsBy (FromFirst count) request bytes text = (streamed_fault request count bytes ≡ None) × (streamed_wrong request count bytes ≡ None) × (text ≡ streamed_text request count bytes)
+ShowsBy (FromFirst count) request bytes text = StreamsText request count bytes text
 
 abbrev pub Shows : Request → List ℕ → Text → Type 0
 Shows request bytes text = ShowsBy request.rows request bytes text
@@ -111,7 +118,7 @@ Shows request bytes text = ShowsBy request.rows request bytes text
 -- what a run remarks on it
 abbrev pub RemarksBy : rows.Rows → Request → List ℕ → Remarks → Type 0
 RemarksBy AtOnce request bytes remarks = RemarksAll request bytes remarks
-RemarksBy (FromFirst count) request bytes remarks = remarks ≡ streamed_remarks request count bytes
+RemarksBy (FromFirst count) request bytes remarks = StreamsRemarks request count bytes remarks
 
 abbrev pub AreRemarks : Request → List ℕ → Remarks → Type 0
 AreRemarks request bytes remarks = RemarksBy request.rows request bytes remarks
@@ -134,3 +141,66 @@ CausedBy (FromFirst count) request bytes fault old new = StopsStream request cou
 
 abbrev pub Caused : Request → List ℕ → RunFault → Option (List ℕ) → Option (List ℕ) → Type 0
 Caused request bytes fault old new = CausedBy request.rows request bytes fault old new
+
+-- ---- inputs that both ways show alike
+
+-- the options that a stream doesn't have are off
+pub record ShowsEachRow (options : Options) : Type 0 where
+  pub names : options.names.items ≡ []
+  pub numbered : options.is_numbered ≡ false
+  pub padded : options.is_padded ≡ false
+  pub unsorted : options.sort ≡ None
+  pub head : options.head ≡ None
+  pub tail : options.tail ≡ None
+  pub ends : options.ends ≡ None
+  pub uncounted : options.is_counting ≡ false
+  pub vertical : options.vertical ≡ Never
+  pub untinted : colors_fields options ≡ false
+
+-- a table of a database is asked for
+abbrev pub AsksTable : Option Selection → Type 0
+AsksTable None = ⊥
+AsksTable (Some (Query query)) = ⊥
+AsksTable (Some (Table name null_text)) = ⊤
+AsksTable (Some Tables) = ⊥
+
+module _ (request : Request) (count : ℕ) (bytes : List ℕ) where
+  -- no more rows than the first so many; the first bytes show the format that all show, or it is given: else what begins with `{` may be one JSON value, or lines of JSON
+  abbrev pub AreFirstAs : Bool → Type 0
+  AreFirstAs false =
+      (length (rows_in None (members_of request.source) (format_told request.source) bytes) ≤ streamed_count request count bytes)
+      × (format_in (format_told request.source) bytes ≡ streamed_format request count bytes)
+  AreFirstAs true = (rows : List (List Text)) → AreAsked None request.source bytes rows → length rows ≤ streamed_count request count bytes
+
+  pub record AllAreFirst : Type 0 where
+    -- there are no further inputs
+    pub alone : request.further.items ≡ []
+    pub options : ShowsEachRow request.view
+    pub rows : AreFirstAs (holds_database request.source bytes)
+
+  -- neither a database nor one JSON value
+  abbrev pub HasFormat : Type 0
+  HasFormat = (holds_database request.source bytes ≡ false) × (streamed_format request count bytes ≢ Json)
+
+  -- or a table of a database
+  abbrev pub IsStreamable : Type 0
+  IsStreamable = HasFormat ⊎ AsksTable (selection_of request.source)
+
+-- ---- the law
+
+-- the text of a stream is the text at once
+abbrev pub StreamsShowAsAtOnce : Type 0
+StreamsShowAsAtOnce = (request : Request) (count : ℕ) (bytes : List ℕ) (text : Text) → AllAreFirst request count bytes
+    → ShowsBy (FromFirst count) request bytes text → ShowsBy AtOnce request bytes text
+
+-- and the text at once is the text of a stream
+abbrev pub AtOnceShowsAsStreams : Type 0
+AtOnceShowsAsStreams = (request : Request) (count : ℕ) (bytes : List ℕ) (text : Text) → AllAreFirst request count bytes → IsStreamable request count bytes
+    → ShowsBy AtOnce request bytes text → ShowsBy (FromFirst count) request bytes text
+
+-- the same is wrong with the rows of a format, or else with their table
+abbrev pub BothWaysFindOneFault : Type 0
+BothWaysFindOneFault = (request : Request) (count : ℕ) (bytes : List ℕ) (rows : List (List Text)) (wrong : Option InputFault) → AllAreFirst request count bytes → HasFormat request count bytes
+    → AreStreamed request count bytes rows wrong
+    → (wrong ≡ input_fault None (members_of request.source) (format_told request.source) bytes)
+    × (wrong ≡ None → first_wrong request.view (streamed_count request count bytes) rows wrong ≡ option_map of_view (table_fault request.view rows))

@@ -13,7 +13,7 @@ ghost use Rattle.ruled_table.specs.View.{all_excess, all_fault, all_text, table_
 ghost use Rattle.ruled_io.specs.Faults.{is_early, is_of_write, is_read, TellsWrite, failure_in, failure_of, write_part, Begins};
 ghost use Rattle.ruled_io.specs.Reading.{ReportsRead, read_failure};
 ghost use Rattle.ruled_io.specs.Runs.{AreJoined, CausedAtOnce, LacksInputs, RemarksAll, ShowsAll};
-ghost use Rattle.ruled_io.specs.Steps.{Draws, DrawsInMemory};
+ghost use Rattle.ruled_io.specs.Stream.{Draws, DrawsInMemory};
 ghost use Rattle.ruled_io.specs.declared.fault.RunFault.{RunFault};
 ghost use Rattle.ruled_table.specs.declared.options.Options.{Options};
 

@@ -23,7 +23,7 @@ use std::io::{self, Write};
 pub enum StreamedFault {
     /// One value of JSON holds all rows.
     Value,
-    /// The input is a database.
+    /// Of a database no table is asked for.
     Database,
 }
 
@@ -206,7 +206,9 @@ impl fmt::Display for StreamedFault {
     fn fmt<W: fmt::Write>(&self, f: &mut fmt::Formatter<W>) -> fmt::Result {
         match self {
             StreamedFault::Value => write!(f, "a single JSON value can't be streamed"),
-            StreamedFault::Database => write!(f, "a database can't be streamed"),
+            StreamedFault::Database => {
+                write!(f, "the list of tables can't be streamed; --table can")
+            }
         }
     }
 }

@@ -6,7 +6,7 @@ ghost use Rattle.std.specs.Str.{bytes_eq};
 ghost use Rattle.csv.specs.Records.{fields_of};
 ghost use Rattle.ruled_io.specs.Faults.{Tells};
 ghost use Rattle.ruled_io.specs.Input as spec;
-ghost use Rattle.ruled_io.specs.Steps.{beneath};
+ghost use Rattle.ruled_io.specs.Stream.{beneath};
 
 use crate::fault::{FurtherFault, InputFault};
 use crate::input::rows_in;

@@ -6,7 +6,7 @@ ghost use Rattle.ruled_io.specs.Faults.{write_part};
 ghost use Rattle.ruled_io.specs.Reading.{ReportsRead, read_failure};
 ghost use Rattle.ruled_io.specs.Requests.{holds_database, rows_needed};
 ghost use Rattle.ruled_io.specs.Runs.{AreRows, LacksInput};
-ghost use Rattle.ruled_io.specs.Steps.{AreFirst, LacksFirst, limit_of_whole};
+ghost use Rattle.ruled_io.specs.Stream.{AreFirst, LacksFirst, limit_of_whole};
 
 use crate::fault::{InputFault, RunFault};
 use crate::formats::{Format, content_of, format_streamed};

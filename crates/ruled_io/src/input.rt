@@ -7,7 +7,7 @@ ghost use Rattle.ruled_io.specs.Faults.{Tells};
 ghost use Rattle.ruled_io.specs.Input.{format_fault, input_fault, rows_in, rows_of};
 ghost use Rattle.ruled_io.specs.Requests.{holds_database};
 ghost use Rattle.ruled_io.specs.Runs.{AreRows, LacksRows};
-ghost use Rattle.ruled_io.specs.Steps.{limit_of_whole};
+ghost use Rattle.ruled_io.specs.Stream.{limit_of_whole};
 
 use crate::database::asked_rows;
 use crate::fault::InputFault;

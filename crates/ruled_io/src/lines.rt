@@ -5,7 +5,7 @@ ghost use Rattle.csv.specs.Records.{fields_of};
 ghost use Rattle.ruled_table.specs.RowLines.{HasAppended};
 ghost use Rattle.ruled_table.specs.Layouts.{Plan};
 ghost use Rattle.ruled_io.specs.Faults.{but_line_in, is_read, TellsWrite, failure_of};
-ghost use Rattle.ruled_io.specs.Steps.{EndsBelow, FailsIn, WritesBut, WritesRows};
+ghost use Rattle.ruled_io.specs.Stream.{EndsBelow, FailsIn, WritesBut, WritesRows};
 ghost use Rattle.ruled_table.specs.declared.options.Options.{Options};
 
 use crate::fault::{InputFault, RunFault};

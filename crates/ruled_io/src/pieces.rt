@@ -6,13 +6,13 @@ ghost use Rattle.std.specs.Io.KnownBytes.{Consumes, IsAtEnd};
 ghost use Rattle.csv.specs.Records.{fields_of};
 ghost use Rattle.ruled_json.specs.Streamed.{LineRules};
 ghost use Rattle.ruled_io.specs.Faults.{IsOfRead, fault_of_read, is_read, read_part};
-ghost use Rattle.ruled_io.specs.Reading.{BeginsSo, GoesOn, ReadsFront, ReportsRead, Stands, read_failure, left_in};
+ghost use Rattle.ruled_io.specs.Reading.{BeginsSo, GivesMore, GoesOn, Origin, ReadsFront, ReportsRead, Stands, StandsIn, read_failure, left_in};
 ghost use Rattle.ruled_io.specs.declared.formats.Format.{Format};
 ghost use Rattle.ruled_io.specs.declared.reader.Reading.{Reading};
 
 use crate::fault::{InputFault, ReadFault, RunFault};
 use crate::formats::{Known, shows_input};
-use crate::reader::{Reader, Reading};
+use crate::reader::{Reader, Reading, read_stored};
 use crate::request::Source;
 use ruled_row::TextRow;
 use std::alloc::Global;
@@ -122,12 +122,12 @@ impl<R: Read + Drop> Pieces<R> {
         Err(RunFault::Input(InputFault::Memory))
     }
 
-    /// Reads the next bytes, and appends the rows that are complete with them.
-    pub(crate) fn read_on(
+    // Reads the next bytes, and appends the rows that are complete with them.
+    fn read_bytes<'d>(
         &mut self,
         reader: Reader,
         rows: &mut Vec<TextRow>,
-    ) -> Result<Reading, RunFault>
+    ) -> Result<Reading<'d>, RunFault>
         ensures given { (format : Format) (rules : LineRules) (all : List ℕ) (given : List (List (List ℕ)))
             → Stands format rules all (R.remaining self.old.input) given (Reading.More reader)
             → IfOk result (GoesOn format rules all (R.remaining self.new.input) given (map fields_of rows.old.items) (map fields_of rows.new.items)) }
@@ -139,5 +139,23 @@ impl<R: Read + Drop> Pieces<R> {
             return Ok(reader.finish(rows)?);
         }
         Ok(reader.read(&self.buffer[..count], rows)?)
+    }
+
+    /// Reads on, and appends the next rows, of which none are left where all were read.
+    pub(crate) fn read_on<'d>(
+        &mut self,
+        reading: Reading<'d>,
+        rows: &mut Vec<TextRow>,
+    ) -> Result<Reading<'d>, RunFault>
+        ensures given { (origin : Origin) (given : List (List (List ℕ))) → StandsIn origin (R.remaining self.old.input) given reading.entry
+            → IfOk result (GivesMore origin (R.remaining self.new.input) given reading.entry (map fields_of rows.old.items) (map fields_of rows.new.items)) }
+        ensures failed { IfErr result IsOfRead }
+        ensures noted { ReportsRead (read_failure self.new) result }
+    {
+        match reading {
+            Reading::More(reader) => self.read_bytes(reader, rows),
+            Reading::Stored(table) => Ok(read_stored(table, rows)),
+            Reading::Done(wrong) => Ok(Reading::Done(wrong)),
+        }
     }
 }

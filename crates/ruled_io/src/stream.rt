@@ -1,6 +1,6 @@
 //! Rows that are shown one after another, each when it comes.
 
-ghost use Rattle.std.specs.Prelude.{◌≡◌, ◌<◌, ◌++◌, ◌∷◌, [], ℕ, List, None, Option, Some, map, option_map, take, false, true, Err, IfErr, IfOk, IfSome, OnOk};
+ghost use Rattle.std.specs.Prelude.{◌≡◌, ◌<◌, ◌++◌, ◌∷◌, [], ℕ, List, None, Option, Some, map, option_map, take, string_bytes, false, true, Err, IfErr, IfOk, IfSome, OnOk};
 ghost use Rattle.std.specs.Io.KnownBytes.{Keeps};
 ghost use Rattle.csv.specs.Records.{fields_of};
 ghost use Rattle.ruled_json.specs.Rows.{rules_of};
@@ -8,9 +8,10 @@ ghost use Rattle.ruled_json.specs.Streamed.{LineRules};
 ghost use Rattle.ruled_table.specs.RowLines.{HasAppended};
 ghost use Rattle.ruled_table.specs.Layouts.{Plan};
 ghost use Rattle.ruled_io.specs.Faults.{IsOfRead, but_line_in, is_failure, is_of_write, TellsWrite, failure_in, failure_of};
-ghost use Rattle.ruled_io.specs.Reading.{ReportsRead, Stands, read_failure, sound_rows, wrong_in};
-ghost use Rattle.ruled_io.specs.Steps.{EndsBelow, IsEnough, wrong_within};
-ghost use Rattle.ruled_io.specs.Stream.{Ends, StreamsAll, first_count, has_names, line_rules, record_count};
+ghost use Rattle.ruled_io.specs.Reading.{IsHeld, Origin, of_table, ReportsRead, StandsIn, read_failure, sound_rows, wrong_in};
+ghost use Rattle.ruled_io.specs.Stream.{EndsSo, IsEnough, wrong_within};
+ghost use Rattle.ruled_io.specs.Stream.{Ends, EndsOf, StreamsAll, first_count, has_names, line_rules, named_count, record_count};
+ghost use Rattle.ruled_io.specs.Requests.{holds_database};
 ghost use Rattle.ruled_io.specs.declared.fault.ReadFault.{ReadFault};
 ghost use Rattle.ruled_io.specs.declared.fault.RunFault.{RunFault};
 ghost use Rattle.ruled_io.specs.declared.formats.Format.{Format};
@@ -23,7 +24,8 @@ use crate::output::Output;
 use crate::pieces::Pieces;
 use crate::program::Remarks;
 use crate::reader::Reading;
-use crate::request::Request;
+use crate::request::{Request, Selection};
+use ruled_database::open_table;
 use ruled_json::MemberRules;
 use ruled_row::TextRow;
 use ruled_table::{Layout, Options, TableRows, TextColors};
@@ -34,15 +36,15 @@ use std::io::{Read, Write};
 fn write_table<R: Read + Drop, W: Write + Drop>(
     alloc: Global,
     mut table: TableRows<'_>,
-    mut reading: Reading,
+    mut reading: Reading<'_>,
     mut rows: Vec<TextRow>,
     pieces: &mut Pieces<R>,
     out: &mut Output<W>,
 ) -> Result<(), RunFault>
-    ensures ends { (options : Options) (plan : Plan) (format : Format) (rules : LineRules) (all : List ℕ) (above : List (List (List ℕ)))
-        → Stands format rules all (R.remaining pieces.old.input) (above ++ map fields_of rows.items) reading
+    ensures ends { (options : Options) (plan : Plan) (origin : Origin) (above : List (List (List ℕ)))
+        → StandsIn origin (R.remaining pieces.old.input) (above ++ map fields_of rows.items) reading.entry
         → HasAppended options plan above table.entry
-        → EndsBelow options plan (sound_rows format rules all) (wrong_in format rules all) above (W.contents out.old.writer) (W.contents out.new.writer) result }
+        → EndsSo options plan origin (above ++ map fields_of rows.items) reading.entry above (W.contents out.old.writer) (W.contents out.new.writer) result }
     ensures told { TellsWrite (failure_of out.old) (failure_of out.new) result }
     ensures noted { ReportsRead (read_failure pieces.new) result }
 {
@@ -52,9 +54,9 @@ fn write_table<R: Read + Drop, W: Write + Drop>(
         rows.clear();
         match reading {
             Reading::Done(wrong) => return write_end(table, wrong, &mut buf, out),
-            Reading::More(reader) => {
+            more => {
                 out.flush()?;
-                reading = pieces.read_on(reader, &mut rows)?;
+                reading = pieces.read_on(more, &mut rows)?;
             }
         }
     }
@@ -62,15 +64,14 @@ fn write_table<R: Read + Drop, W: Write + Drop>(
 }
 
 /// Reads on until so many rows are there, or all.
-pub(crate) fn read_first<R: Read + Drop>(
-    mut reading: Reading,
+pub(crate) fn read_first<'d, R: Read + Drop>(
+    mut reading: Reading<'d>,
     count: usize,
     pieces: &mut Pieces<R>,
     rows: &mut Vec<TextRow>,
-) -> Result<Reading, RunFault>
-    ensures given { (format : Format) (rules : LineRules) (all : List ℕ)
-        → Stands format rules all (R.remaining pieces.old.input) (map fields_of rows.old.items) reading
-        → IfOk result (Stands format rules all (R.remaining pieces.new.input) (map fields_of rows.new.items)) }
+) -> Result<Reading<'d>, RunFault>
+    ensures given { (origin : Origin) → StandsIn origin (R.remaining pieces.old.input) (map fields_of rows.old.items) reading.entry
+        → IfOk result (StandsIn origin (R.remaining pieces.new.input) (map fields_of rows.new.items)) }
     ensures enough { IfOk result (IsEnough count (map fields_of rows.new.items)) }
     ensures failed { IfErr result IsOfRead }
     ensures noted { ReportsRead (read_failure pieces.new) result }
@@ -78,11 +79,11 @@ pub(crate) fn read_first<R: Read + Drop>(
     for _ in 0..usize::MAX {
         match reading {
             Reading::Done(wrong) => return Ok(Reading::Done(wrong)),
-            Reading::More(reader) => {
+            more => {
                 if rows.len() >= count {
-                    return Ok(Reading::More(reader));
+                    return Ok(more);
                 }
-                reading = pieces.read_on(reader, rows)?;
+                reading = pieces.read_on(more, rows)?;
             }
         }
     }
@@ -90,7 +91,7 @@ pub(crate) fn read_first<R: Read + Drop>(
 }
 
 /// What keeps the first rows from being shown: they end at a bad one.
-pub(crate) fn wrong_within(reading: &Reading, count: usize, rows: usize) -> Option<InputFault>
+pub(crate) fn wrong_within(reading: &Reading<'_>, count: usize, rows: usize) -> Option<InputFault>
     ensures { result ≡ wrong_within count rows reading.now }
 {
     match reading {
@@ -104,14 +105,14 @@ fn show_table<R: Read + Drop, W: Write + Drop>(
     alloc: Global,
     options: &Options,
     count: usize,
-    reading: Reading,
+    reading: Reading<'_>,
     mut rows: Vec<TextRow>,
     pieces: &mut Pieces<R>,
     out: &mut Output<W>,
 ) -> Result<Remarks, RunFault>
-    ensures ends { (format : Format) (rules : LineRules) (all : List ℕ) → 0 < count → IsEnough count (map fields_of rows.items) reading
-        → Stands format rules all (R.remaining pieces.old.input) (map fields_of rows.items) reading
-        → Ends options.now count (sound_rows format rules all) (wrong_in format rules all) (W.contents out.old.writer) (W.contents out.new.writer) result }
+    ensures ends { (origin : Origin) → 0 < count → IsEnough count (map fields_of rows.items) reading.entry
+        → StandsIn origin (R.remaining pieces.old.input) (map fields_of rows.items) reading.entry
+        → EndsOf options.now count (IsHeld origin) (W.contents out.old.writer) (W.contents out.new.writer) result }
     ensures told { TellsWrite (failure_of out.old) (failure_of out.new) result }
     ensures noted { ReportsRead (read_failure pieces.new) result }
 {
@@ -195,6 +196,63 @@ fn show_rows<R: Read + Drop, W: Write + Drop>(
     show_table(alloc, options, first, reading, rows, pieces, out)
 }
 
+// Shows the rows of the table of this name of the database that has these bytes, with this text for NULL.
+fn show_stored<R: Read + Drop, W: Write + Drop>(
+    alloc: Global,
+    options: &Options,
+    bytes: &[u8],
+    name: &str,
+    null: &str,
+    count: usize,
+    pieces: &mut Pieces<R>,
+    out: &mut Output<W>,
+) -> Result<Remarks, RunFault>
+    ensures ends { EndsOf options.now (named_count count) (IsHeld (of_table bytes.now name.now null.now)) (W.contents out.old.writer) (W.contents out.new.writer) result }
+    ensures told { TellsWrite (failure_of out.old) (failure_of out.new) result }
+    ensures noted { ReportsRead (read_failure pieces.new) result }
+{
+    match open_table(alloc, bytes, name, null) {
+        Ok((names, table)) => {
+            let mut rows = Vec::new(alloc);
+            rows.push(names)?;
+            let first = record_count(count).saturating_add(1);
+            let reading = read_first(Reading::Stored(table), first, pieces, &mut rows)?;
+            show_table(alloc, options, first, reading, rows, pieces, out)
+        }
+        Err(fault) => Err(RunFault::Input(fault.into())),
+    }
+}
+
+// Shows what is asked of a database of which these are the first bytes. Only a table is shown row by row.
+fn show_database<R: Read + Drop, W: Write + Drop>(
+    alloc: Global,
+    request: &Request,
+    count: usize,
+    front: Vec<u8>,
+    pieces: &mut Pieces<R>,
+    out: &mut Output<W>,
+) -> Result<Remarks, RunFault>
+    ensures ends { (rest : List ℕ) → R.remaining pieces.old.input ≡ Some rest → holds_database request.now.source (front.items ++ rest) ≡ true
+        → StreamsAll request.now count (front.items ++ rest) (W.contents out.old.writer) (W.contents out.new.writer) result }
+    ensures told { TellsWrite (failure_of out.old) (failure_of out.new) result }
+    ensures noted { ReportsRead (read_failure pieces.new) result }
+{
+    match request.source.selection() {
+        Some(Selection::Table { name, null }) => {
+            let mut bytes = front;
+            pieces.read_rest(&mut bytes)?;
+            if request.source.log().hides_rows(&bytes) {
+                return Err(RunFault::Input(InputFault::Log));
+            }
+            let (name, null) = (name.as_str(), null.as_str());
+            show_stored(alloc, &request.view, &bytes, name, null, count, pieces, out)
+        }
+        Some(Selection::Query(_) | Selection::Tables) | None => {
+            Err(RunFault::Input(InputFault::Stream(StreamedFault::Database)))
+        }
+    }
+}
+
 // Shows the rows of an input.
 fn show_input<R: Read + Drop, W: Write + Drop>(
     alloc: Global,
@@ -209,7 +267,7 @@ fn show_input<R: Read + Drop, W: Write + Drop>(
 {
     let front = pieces.read_front(alloc, &request.source)?;
     if request.source.is_database(&front) {
-        return Err(RunFault::Input(InputFault::Stream(StreamedFault::Database)));
+        return show_database(alloc, request, count, front, pieces, out);
     }
     let format = format_streamed(request.source.known(), &front);
     let plain = MemberRules::new(alloc);

@@ -1,12 +1,12 @@
--- What a query has and `sqlite`, or the database, lacks.
-use Rattle.std.specs.Prelude.{ℕ, ◌+◌, ◌-◌, ◌^◌, ◌==◌, ◌&&◌, ◌||◌, not, nat_le, nat_lt, Bool, true, false, List, [], ◌∷◌, length, take, drop, map, min, position, Option}
-use Rattle.std.specs.Prelude.{Some, None, codes, is_some, slice_index_or, if◌then◌else◌}
+-- What a query has and `sqlite`, or the database, lacks, and the words for why a query has no rows.
+use Rattle.std.specs.Prelude.{ℕ, ◌+◌, ◌-◌, ◌^◌, ◌==◌, ◌&&◌, ◌||◌, not, nat_le, nat_lt, Bool, true, false, List, [], ◌∷◌, length, take, drop, map, min, position, Option, Some, None, codes}
+use Rattle.std.specs.Prelude.{is_some, slice_index_or, if◌then◌else◌, ◌++◌, decimal, option_map}
 use Rattle.std.specs.Char.{is_ascii_alphanumeric, is_ascii_digit, is_ascii_whitespace}
 use Rattle.std.specs.List.{list_any, prefix_len}
 use Rattle.std.specs.Option.{option_or}
 use Rattle.std.specs.Str.{str_eq_ignore_ascii_case}
 use Rattle.sqlite_resolve.specs.declared.error.CompileError.{CompileError}
-use Rattle.sqlite_resolve.specs.declared.error.CompileError.TheVariants.{NoSuchColumn, NoSuchFunction, NoSuchTable}
+use Rattle.sqlite_resolve.specs.declared.error.CompileError.TheVariants.{NoSuchColumn, NoSuchFunction, NoSuchTable, Exists, Parse, Unsupported}
 use Rattle.sqlite_schema.specs.Names.{column_named, table_named}
 use Rattle.sqlite_schema.specs.declared.schema.Schema.{Schema}
 use Rattle.ruled_sql.specs.declared.lack.Meaning.{Meaning}
@@ -14,6 +14,13 @@ use Rattle.ruled_sql.specs.declared.lack.Meaning.TheVariants.{Table, Column, Fun
 use Rattle.ruled_sql.specs.declared.lack.Mode.{Mode}
 use Rattle.ruled_sql.specs.declared.lack.Mode.TheVariants as mode
 use Rattle.ruled_sql.specs.declared.lack.TheConstants.{ARROW, CALLS, FUNCTIONS, LEADS, LONG_CALLS, OTHERS, ROW, WORDS}
+use Rattle.ruled_sql.specs.declared.fault.QueryFault.{QueryFault}
+use Rattle.ruled_sql.specs.declared.fault.QueryFault.TheVariants.{Refused, Missing, Limit, Change, Encoding, Memory}
+use Rattle.ruled_sql.specs.declared.fault.SqlFault.{SqlFault}
+use Rattle.ruled_sql.specs.declared.fault.SqlFault.TheVariants as sql
+use Rattle.sqlite.specs.declared.error.Error.TheVariants.{SqlInputError, SqliteFailure}
+use Rattle.sqlite.specs.declared.error.ErrorCode.TheVariants.{NoClock}
+use Rattle.sqlite_syntax.specs.declared.error.ParseError.TheVariants as parse
 
 -- ---- what is in quotes or a comment
 
@@ -252,3 +259,62 @@ missing_by NoSuchTable = Table
 missing_by NoSuchColumn = Column
 missing_by NoSuchFunction = Function
 missing_by _ = Other
+
+-- what an error of `sqlite` writes isn't known
+abbrev pub query_fault_text : QueryFault → Option (List ℕ)
+query_fault_text (Refused error) = None
+query_fault_text (Missing Table left) = Some (codes "no such table")
+query_fault_text (Missing Function left) = Some (codes "no such function")
+query_fault_text (Missing _ left) = Some (codes "no such column")
+query_fault_text (Limit steps) = Some (codes "the query takes more than " ++ (decimal steps ++ codes " steps; see --limit-steps"))
+query_fault_text Change = Some (codes "the query changes the database")
+query_fault_text (Encoding row) = Some (codes "row " ++ (decimal row ++ codes ": not UTF-8"))
+query_fault_text Memory = Some (codes "out of memory")
+
+abbrev pub sql_fault_text : SqlFault → Option (List ℕ)
+sql_fault_text sql.Database = Some (codes "not an SQLite database, or it is encrypted or of an unsupported kind")
+sql_fault_text sql.Damage = Some (codes "a query can't read this database, but --table may")
+sql_fault_text (sql.NoRows table) = Some (codes "there is no row 0, so there is no table")
+sql_fault_text (sql.Columns table (SqlInputError Exists)) = Some (codes "two columns have one name, whose case doesn't count")
+sql_fault_text (sql.Columns table error) = None
+sql_fault_text (sql.NoTable left) = Some (codes "no such table")
+sql_fault_text (sql.Query fault) = query_fault_text fault
+sql_fault_text sql.Memory = Some (codes "out of memory")
+
+-- ---- queries that are refused
+
+-- how many bytes of a statement are left from the word on that no rule reads, or that names what there isn't
+abbrev pub left_in : SqlFault → Option ℕ
+left_in (sql.Query (Refused (SqlInputError (Parse (parse.Syntax left))))) = Some left
+left_in (sql.Query (Refused (SqlInputError (Parse (parse.Unsupported left))))) = Some left
+left_in (sql.Query (Missing what left)) = Some left
+left_in (sql.NoTable left) = left
+left_in fault = None
+
+abbrev pub may_lack : SqlFault → Bool
+may_lack (sql.Query (Refused (SqlInputError (Parse (parse.Syntax left))))) = true
+may_lack (sql.Query (Refused (SqlInputError (Parse (parse.Unsupported left))))) = true
+may_lack (sql.Query (Refused (SqlInputError NoSuchFunction))) = true
+may_lack (sql.Query (Refused (SqliteFailure NoClock))) = true
+may_lack (sql.Query (Missing Function left)) = true
+may_lack (sql.Query (Refused (SqlInputError Unsupported))) = true
+may_lack fault = false
+
+-- what `sqlite` lacks of the query, where a word or a call isn't known
+abbrev pub lack_of : SqlFault → List ℕ → Option Lack
+lack_of fault query = if may_lack fault then lack_in query else None
+
+abbrev pub left_of : SqlFault → List ℕ → Option ℕ
+left_of fault query = if is_some (lack_of fault query) then None else left_in fault
+
+abbrev pub lack_text : Lack → List ℕ
+lack_text lack = codes "not supported: " ++ (lack.0 ++ (codes " (" ++ (lack.1 ++ codes ")")))
+
+abbrev pub misread_text : SqlFault → Option (List ℕ)
+misread_text (sql.Query (Refused (SqlInputError (Parse (parse.Syntax left))))) = Some (codes "syntax error")
+misread_text (sql.Query (Refused (SqlInputError (Parse (parse.Unsupported left))))) = Some (codes "not supported")
+misread_text (sql.Query (Refused (SqlInputError Unsupported))) = Some (codes "something in the query isn't supported")
+misread_text fault = sql_fault_text fault
+
+abbrev pub refusal_text : SqlFault → List ℕ → Option (List ℕ)
+refusal_text fault query = option_or (option_map lack_text (lack_of fault query)) (misread_text fault)

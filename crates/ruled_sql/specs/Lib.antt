@@ -1,4 +1,3 @@
 pub mod Answers
 pub mod Filled
 pub mod Lacks
-pub mod Words

@@ -2,12 +2,12 @@
 
 ghost use Rattle.std.specs.Prelude.{◌≡◌, option_map};
 ghost use Rattle.ruled_sql.specs.Answers.{is_memory};
-ghost use Rattle.ruled_sql.specs.Words.{query_fault_text, sql_fault_text};
+ghost use Rattle.ruled_sql.specs.Lacks.{query_fault_text, sql_fault_text};
 ghost use Rattle.ruled_sql.specs.declared.fault.QueryFault.{QueryFault};
 ghost use Rattle.ruled_sql.specs.declared.fault.SqlFault.{SqlFault};
 ghost use Rattle.ruled_sql.specs.declared.fault.SqlFault.TheVariants.{Query};
 ghost use Rattle.std.specs.Fmt.{DisplaysOnOk};
-ghost use Rattle.ruled_sql.specs.Words as spec;
+ghost use Rattle.ruled_sql.specs.Lacks as spec;
 
 use crate::lack::{Lack, Meaning, lack_in};
 use sqlite::{Error, ErrorCode};

@@ -2,7 +2,7 @@ use Rattle.std.proofs.Common.{◌≡◌, ◌∙◌, ◌++◌, ℕ, List, ap, ap�
 use Rattle.std.proofs.lemmas.Grind.{common_steps}
 use Rattle.std.specs.Fmt.{decimal}
 use Rattle.sqlite_sql.specs.Spelling as spec
-use Rattle.ruled_database.proofs.Floats.{spelled_plain}
+use Rattle.ruled_database.proofs.Tabling.{spelled_plain}
 use Rattle.ruled_database.proofs.float.float_text.Goals as goal
 
 pub returns : goal.returns

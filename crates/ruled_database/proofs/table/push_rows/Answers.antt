@@ -1,9 +1,9 @@
-use Rattle.std.proofs.Common.{◌≡◌, ◌∙◌, ◌++◌, ◌∷◌, ℕ, List, [], Bool, Option, None, Some, Ok, Err, map, length, true, refl, sym, ap, subst, append_assoc, ◌+◌, ◌-◌, arith, rules}
+use Rattle.std.proofs.Common.{◌≡◌, ◌∙◌, ◌++◌, ◌∷◌, ℕ, List, [], Bool, Option, None, Some, Ok, Err, map, length, refl, sym, ap, subst, append_assoc, ◌+◌, ◌-◌, arith, rules}
 use Rattle.std.proofs.lemmas.List.{length-append}
 use Rattle.std.proofs.lemmas.List.Elements.{All-push}
 use Rattle.csv.specs.Records.{fields_of}
-use Rattle.ruled_database.specs.Files.{page_count}
-use Rattle.ruled_database.specs.Trees.{Gives, Stored, rows_to_come, stored_of, with_row}
+use Rattle.ruled_database.specs.Listings.{rows_to_come, stored_of, with_row}
+use Rattle.ruled_database.specs.Trees.{page_count, Gives, Stored}
 use Rattle.ruled_database.specs.Tables.{GivesRow, HasWrongText, shown_row, shown_rows_of}
 use Rattle.ruled_database.specs.declared.file.File.{File}
 use Rattle.ruled_database.specs.declared.tree.StoredRow.{StoredRow}
@@ -21,12 +21,12 @@ loop-reader-init c =
     let definition = c.args.definition.now in
     let old = map fields_of c.args.rows.now.items in
     record {
-      file = c.of-2.ensures.file;
+      file = c.of-reader.ensures.file;
       taken = [];
       walked = sym c.in_ok-stored.ensures.rows;
       texts = λ i default less. absurd (omega (arith, less));
       counted = omega arith;
-      rows = subst (λ (n : ℕ). Gives {U = ℕ} (shown_rows_of file definition []) (page_count file) n old old (Ok 0)) (sym c.of-2.ensures.left) (gives_nothing (page_count file) old);
+      rows = subst (λ (n : ℕ). Gives {U = ℕ} (shown_rows_of file definition []) (page_count file) n old old (Ok 0)) (sym c.of-reader.ensures.left) (gives_nothing (page_count file) old);
     }
 
 pub loop-reader-preserved : goal.loop-reader-preserved

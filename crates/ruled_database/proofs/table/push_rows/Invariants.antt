@@ -1,8 +1,8 @@
 use Rattle.std.proofs.Common.{◌≡◌, ◌+◌, ◌++◌, ℕ, List, map, length, Ok}
 use Rattle.std.specs.Prelude.{All}
 use Rattle.csv.specs.Records.{fields_of}
-use Rattle.ruled_database.specs.Files.{page_count}
-use Rattle.ruled_database.specs.Trees.{Gives, Stored, rows_to_come}
+use Rattle.ruled_database.specs.Listings.{rows_to_come}
+use Rattle.ruled_database.specs.Trees.{page_count, Gives, Stored}
 use Rattle.ruled_database.specs.Tables.{HasWrongText, shown_rows_of, tree_rows}
 use Rattle.ruled_database.proofs.table.push_rows.Given as goal
 

@@ -1,5 +1,5 @@
 use Rattle.std.proofs.Common.{◌≡◌, length}
-use Rattle.ruled_database.specs.Tokens.{read_from}
+use Rattle.ruled_database.specs.Definitions.{read_from}
 use Rattle.ruled_database.proofs.token.read_on.Given as goal
 
 abbrev pub invariant-loop-text : goal.invariant-loop-text

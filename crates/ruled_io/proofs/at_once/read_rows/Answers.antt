@@ -5,7 +5,6 @@ use Rattle.ruled_io.specs.Faults.{but_line_in, is_memory}
 use Rattle.ruled_io.specs.Input.{further_fault, joined}
 use Rattle.ruled_io.specs.Runs.{AreRows, LacksInput, LacksInputs}
 use Rattle.ruled_io.specs.declared.fault.RunFault.TheVariants.{Input}
-use Rattle.ruled_io.specs.Requests.{rows_needed}
 use Rattle.ruled_io.proofs.Causes.{first-lacks, further-lacks, handed-known, if-so}
 use Rattle.ruled_io.proofs.at_once.read_rows.Goals as goal
 

@@ -1,10 +1,9 @@
-use Rattle.std.proofs.Common.{◌≡◌, ◌∙◌, ℕ, List, Option, None, Some, drop, map, sym, ap, subst}
+use Rattle.std.proofs.Common.{◌≡◌, ◌∙◌, List, drop, map, ap, subst}
 use Rattle.std.specs.List.{flat_map}
-use Rattle.csv.specs.Records.{Row, fields_of}
+use Rattle.csv.specs.Records.{fields_of}
 use Rattle.pg_layout.specs.Text.{Text}
 use Rattle.ruled_table.specs.View.{blocks_fault, blocks_text, record_block, records_fault}
-use Rattle.ruled_table.specs.declared.view.ViewFault.{ViewFault}
-use Rattle.ruled_io.specs.Steps.{DrawsInMemory}
+use Rattle.ruled_io.specs.Stream.{DrawsInMemory}
 use Rattle.ruled_io.proofs.Shows.{draws-so, drop-one, view-draws}
 use Rattle.ruled_io.proofs.at_once.show_blocks.Goals as goal
 

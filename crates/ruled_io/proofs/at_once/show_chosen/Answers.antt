@@ -1,10 +1,10 @@
-use Rattle.std.proofs.Common.{◌≡◌, ℕ, List, Option, None, map, refl, ap, subst, true, rules}
+use Rattle.std.proofs.Common.{◌≡◌, ℕ, List, Option, None, map, ap, subst, true, rules}
 use Rattle.csv.specs.Records.{fields_of}
 use Rattle.pg_layout.specs.Text.{Text}
 use Rattle.ruled_table.specs.View.{blocks_fault, blocks_text, all_excess, all_fault, all_text}
 use Rattle.ruled_table.specs.Columns.{column_fault}
 use Rattle.ruled_table.specs.Layouts.{is_always}
-use Rattle.ruled_io.specs.Steps.{Draws}
+use Rattle.ruled_io.specs.Stream.{Draws}
 use Rattle.ruled_io.proofs.Shows.{always-blocks, blocks-always, blocks-excess, draws-with, returned-with, same-draws, told-with}
 use Rattle.ruled_io.proofs.at_once.show_chosen.Goals as goal
 

@@ -1,4 +1,4 @@
-use Rattle.std.proofs.Common.{◌≡◌, ◌≤◌, ◌<◌, ◌∙◌, ◌-◌, ◌^◌, ℕ, List, None, Option, length, map, take, refl, sym, ap, subst, true, false, arith}
+use Rattle.std.proofs.Common.{◌≡◌, ◌<◌, ◌∙◌, ◌-◌, ◌^◌, ℕ, List, None, Option, length, map, take, refl, sym, ap, subst, true, false, arith}
 use Rattle.std.specs.Prelude.{if◌then◌else◌}
 use Rattle.std.specs.Option.{option_or}
 use Rattle.std.proofs.lemmas.Bool.{eqb-true}
@@ -7,9 +7,9 @@ use Rattle.csv.specs.Records.{fields_of}
 use Rattle.pg_layout.specs.Text.{Text}
 use Rattle.ruled_table.specs.View.{blocks_fault, blocks_text, all_excess, all_fault, all_text, shows_blocks, whole_table}
 use Rattle.ruled_table.specs.Columns.{column_fault}
-use Rattle.ruled_table.specs.Layouts.{Plan, is_in_blocks, plan_in, layout_fault, layout_of, start_fault}
+use Rattle.ruled_table.specs.Layouts.{is_in_blocks, plan_in, layout_fault, layout_of, start_fault}
 use Rattle.ruled_table.specs.declared.view.ViewFault.{ViewFault}
-use Rattle.ruled_io.specs.Steps.{Draws}
+use Rattle.ruled_io.specs.Stream.{Draws}
 use Rattle.ruled_io.proofs.Shows.{blocks-excess, draws-with, excess-measured, measured-wrong, none-draws, none-excess, returned-with, same-draws, told-with, view-draws, above-none}
 use Rattle.ruled_io.proofs.at_once.show_measured.Goals as goal
 

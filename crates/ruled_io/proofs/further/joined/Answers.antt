@@ -3,7 +3,7 @@ use Rattle.csv.specs.Records.{fields_of}
 use Rattle.pg_layout.specs.Text.{Text}
 use Rattle.ruled_io.specs.Input.{misfit, rows_held}
 use Rattle.ruled_io.specs.Requests.{is_ragged}
-use Rattle.ruled_io.specs.Steps.{beneath}
+use Rattle.ruled_io.specs.Stream.{beneath}
 use Rattle.ruled_io.proofs.Inputs.{joins-on, leads-on, misfit-wrong}
 use Rattle.ruled_io.proofs.further.joined.Goals as goal
 

@@ -1,6 +1,5 @@
-use Rattle.std.proofs.Common.{◌≡◌, ◌∷◌, List, drop, map, take}
+use Rattle.std.proofs.Common.{◌≡◌, ◌∷◌, drop, map, take}
 use Rattle.csv.specs.Records.{fields_of}
-use Rattle.pg_layout.specs.Text.{Text}
 use Rattle.ruled_io.specs.Input.{fault_from, further_fault, joined_rows, rows_held, rows_of_all}
 use Rattle.ruled_io.proofs.further.joined.Given as goal
 

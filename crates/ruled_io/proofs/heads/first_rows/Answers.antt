@@ -1,11 +1,11 @@
-use Rattle.std.proofs.Common.{◌≡◌, ◌∙◌, ◌++◌, ℕ, List, Option, None, Some, length, map, take, sym, ap, subst, arith}
+use Rattle.std.proofs.Common.{◌≡◌, ◌∙◌, ◌++◌, ℕ, List, Option, Some, length, map, take, sym, ap, subst, arith}
 use Rattle.std.proofs.lemmas.List.{length-map, take-map}
 use Rattle.csv.specs.Records.{fields_of}
 use Rattle.pg_layout.specs.Text.{Text}
 use Rattle.ruled_json.specs.Rows.{Rules, rules_of}
 use Rattle.ruled_json.specs.Streamed.{LineRules}
-use Rattle.ruled_io.specs.Reading.{Stands}
-use Rattle.ruled_io.specs.Steps.{AreFirst, plain_lines, wrong_within}
+use Rattle.ruled_io.specs.Reading.{Stands, in_format}
+use Rattle.ruled_io.specs.Stream.{AreFirst, plain_lines, wrong_within}
 use Rattle.ruled_io.proofs.Inputs.{first-are, first-lack, stands-so}
 use Rattle.ruled_io.proofs.heads.first_rows.Goals as goal
 
@@ -23,7 +23,7 @@ returns-in-Some-clause-cause g c = λ rest known soft.
     let count : c.len.result ≡ length given = omega (arith, c.len.ensures, c.read_first.new.rows.ok, long) in
     let begun = stands-so format lines all (Some rest) (map fields_of c.new-rows.result.items) (map fields_of c.of_front.new.rows.items) c.in_ok-reading.reading (ap (map fields_of) c.new-rows.ensures.items) (c.in_ok-reading.ensures.given rest) in
     let here = subst (λ (l : Option (List ℕ)). Stands format lines all l (map fields_of c.of_front.new.rows.items) c.in_ok-reading.reading) (sym known) begun in
-    first-lack format c.args.limit all left given reading c.in_ok-reading-2.ensures.enough (subst (λ (ls : LineRules). Stands format ls all left given reading) same (c.in_ok-reading-2.ensures.given format lines all here)) c.in-Some.fault
+    first-lack format c.args.limit all left given reading c.in_ok-reading-2.ensures.enough (subst (λ (ls : LineRules). Stands format ls all left given reading) same (c.in_ok-reading-2.ensures.given (in_format format lines all) here)) c.in-Some.fault
     (ap (λ (n : ℕ). wrong_within c.args.limit n reading) (sym count) ∙ sym c.wrong_within.ensures ∙ c.in-Some.is)
 
 pub returns-clause-rows : goal.returns-clause-rows
@@ -41,7 +41,7 @@ returns-clause-rows g c = λ rest known.
     let begun = stands-so format lines all (Some rest) (map fields_of c.new-rows.result.items) (map fields_of c.of_front.new.rows.items) c.in_ok-reading.reading (ap (map fields_of) c.new-rows.ensures.items) (c.in_ok-reading.ensures.given rest) in
     let here = subst (λ (l : Option (List ℕ)). Stands format lines all l (map fields_of c.of_front.new.rows.items) c.in_ok-reading.reading) (sym known) begun in
     let are : AreFirst format c.args.limit all (take c.args.limit given) =
-    first-are format c.args.limit all left given reading c.in_ok-reading-2.ensures.enough (subst (λ (ls : LineRules). Stands format ls all left given reading) same (c.in_ok-reading-2.ensures.given format lines all here))
+    first-are format c.args.limit all left given reading c.in_ok-reading-2.ensures.enough (subst (λ (ls : LineRules). Stands format ls all left given reading) same (c.in_ok-reading-2.ensures.given (in_format format lines all) here))
     (ap (λ (n : ℕ). wrong_within c.args.limit n reading) (sym count) ∙ sym c.wrong_within.ensures ∙ c.in_default.is)
     in
     let cut : take c.args.limit given ≡ map fields_of (take c.args.limit c.read_first.new.rows.items) = take-map fields_of c.args.limit c.read_first.new.rows.items in

@@ -1,12 +1,11 @@
 use Rattle.std.proofs.Common.{◌≡◌, ◌<◌, ◌-◌, ◌^◌, ◌∙◌, ◌++◌, inl, inr, Global, Vec, ℕ, List, Ok, Err, false, true, length, map, arith, refl, sym, ap, subst}
-use Rattle.std.specs.Prelude.{unwrap_or}
 use Rattle.std.proofs.lemmas.List.{length-map}
 use Rattle.csv.specs.Records.{Row, fields_of}
 use Rattle.pg_layout.specs.Text.{Text}
 use Rattle.ruled_io.specs.Formats.{content_of, format_streamed, is_separated}
 use Rattle.ruled_io.specs.Requests.{format_told, holds_database}
 use Rattle.ruled_io.specs.Runs.{LacksInput}
-use Rattle.ruled_io.specs.Steps.{AreFirst, LacksFirst}
+use Rattle.ruled_io.specs.Stream.{AreFirst, LacksFirst}
 use Rattle.ruled_io.specs.declared.fault.InputFault.TheVariants.{Memory}
 use Rattle.ruled_io.specs.declared.fault.RunFault.TheVariants.{Input}
 use Rattle.ruled_io.specs.declared.formats.Format.{Format}

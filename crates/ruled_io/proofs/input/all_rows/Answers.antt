@@ -1,4 +1,4 @@
-use Rattle.std.proofs.Common.{◌≡◌, ◌∙◌, false, true, map, string_bytes, sym}
+use Rattle.std.proofs.Common.{◌≡◌, ◌∙◌, false, true, map, sym}
 use Rattle.csv.specs.Records.{fields_of}
 use Rattle.ruled_json.specs.Rows.{rules_of}
 use Rattle.ruled_io.specs.Requests.{holds_database}

@@ -2,7 +2,7 @@ use Rattle.std.proofs.Common.{◌≡◌, ◌≤◌, ◌+◌, ◌∷◌, [], List
 use Rattle.std.proofs.lemmas.List.{nil_from_length}
 use Rattle.std.proofs.lemmas.Result.{on_ok_weaker}
 use Rattle.csv.specs.Records.{Row, fields_of}
-use Rattle.ruled_io.specs.Steps.{FailsIn}
+use Rattle.ruled_io.specs.Stream.{FailsIn}
 use Rattle.ruled_io.proofs.Shows.{writes-only}
 use Rattle.ruled_io.proofs.Tables.{Goes, drop-next, goes-begin, goes-end, goes-fails, goes-next, handed, waits-cut, waits-written}
 use Rattle.ruled_io.proofs.lines.write_rows.Goals as goal

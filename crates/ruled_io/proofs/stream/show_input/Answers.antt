@@ -1,17 +1,12 @@
-use Rattle.std.proofs.Common.{◌≡◌, ◌∙◌, ◌++◌, ℕ, List, Option, Result, Err, false, true, refl, sym, ap, subst₂}
+use Rattle.std.proofs.Common.{◌≡◌, ◌∙◌, ◌++◌, ℕ, List, false, true, sym, ap, subst, subst₂}
 use Rattle.ruled_json.specs.Rows.{Rules}
 use Rattle.ruled_io.specs.Formats.{content_of, format_streamed}
 use Rattle.ruled_io.specs.Reading.{ReadsFront, sound_rows, wrong_in}
 use Rattle.ruled_io.specs.Requests.{format_told, holds_database}
-use Rattle.ruled_io.specs.Stream.{Ends, StreamsAll, first_count, line_rules, streamed_count, streamed_rows, streamed_wrong}
-use Rattle.ruled_io.specs.declared.fault.InputFault.TheVariants.{Stream}
+use Rattle.ruled_io.specs.Stream.{Ends, StreamsAll, first_count, line_rules}
 use Rattle.ruled_io.specs.declared.fault.RunFault.{RunFault}
-use Rattle.ruled_io.specs.declared.fault.RunFault.TheVariants.{Input}
-use Rattle.ruled_io.specs.declared.fault.StreamedFault.TheVariants.{Database}
 use Rattle.ruled_io.specs.declared.formats.Known.{Known}
-use Rattle.ruled_io.specs.declared.program.Remarks.{Remarks}
-use Rattle.ruled_io.proofs.Inputs.{database-ends, if-known, if-more, rows-end-so}
-use Rattle.ruled_io.proofs.Shows.{failed-ends}
+use Rattle.ruled_io.proofs.Inputs.{if-known, if-more, input-fails, rows-end-so}
 use Rattle.ruled_io.proofs.Tables.{read-fails}
 use Rattle.ruled_io.proofs.stream.show_input.Goals as goal
 
@@ -22,17 +17,22 @@ returns-in_err-front-clause-ends g c =
     let old = g.W.Write.contents c.args.out.now.writer in
     let found : RunFault = c.in_err-front.field-0.0 in
     if-known {P = λ bytes. StreamsAll request count bytes old old c.from_residual.result} (g.R.Read.remaining c.args.pieces.now.input)
-    (λ bytes is. failed-ends request.view (streamed_count request count bytes) (streamed_rows request count bytes) (streamed_wrong request count bytes) old found c.from_residual.result c.from_residual.ensures.1 (read-fails found c.in_err-front.ensures.failed))
+    (λ bytes is. input-fails request count bytes old found c.from_residual.result c.from_residual.ensures.1 (read-fails found c.in_err-front.ensures.failed))
 
 pub returns-then-is_database-clause-ends : goal.returns-then-is_database-clause-ends
 returns-then-is_database-clause-ends g c =
     let request = c.args.request.now in
+    let count = c.args.count in
+    let front : List ℕ = c.in_ok-front.front.items in
     let old = g.W.Write.contents c.args.out.now.writer in
+    let new = g.W.Write.contents c.show_database.new.out.writer in
     let left = g.R.Read.remaining c.read_front.new.self.input in
-    let r : Result Remarks RunFault = Err (Input (Stream Database)) in
-    let holds : holds_database request.source c.in_ok-front.front.items ≡ true = ap (holds_database request.source) (sym c.deref.ensures.value) ∙ sym c.is_database.ensures ∙ c.if-is_database.true in
-    if-more {P = λ all. ReadsFront request.source all left c.in_ok-front.front.items} {Q = λ bytes. StreamsAll request c.args.count bytes old old r} (g.R.Read.remaining c.args.pieces.now.input) c.in_ok-front.ensures.read
-    (λ bytes is front. database-ends request c.args.count bytes old r (ap (holds_database request.source) front.1 ∙ front.3.0 ∙ holds) refl)
+    let result = c.show_database.result in
+    let holds : holds_database request.source front ≡ true = ap (holds_database request.source) (sym c.deref.ensures.value) ∙ sym c.is_database.ensures ∙ c.if-is_database.true in
+    if-more {P = λ all. ReadsFront request.source all left front} {Q = λ bytes. StreamsAll request count bytes old new result} (g.R.Read.remaining c.args.pieces.now.input) c.in_ok-front.ensures.read
+    (λ bytes is reads.
+    let ends = c.show_database.ensures.ends reads.0 reads.2 (reads.3.0 ∙ holds) in
+    subst (λ (all : List ℕ). StreamsAll request count all old new result) (sym reads.1) ends)
 
 pub returns-clause-ends : goal.returns-clause-ends
 returns-clause-ends g c =

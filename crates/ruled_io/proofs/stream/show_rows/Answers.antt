@@ -1,10 +1,12 @@
-use Rattle.std.proofs.Common.{◌++◌, ℕ, List, Option, Some, map, sym, ap, subst}
+use Rattle.std.proofs.Common.{◌++◌, ℕ, List, Option, Some, map, sym, ap, subst, subst₂}
 use Rattle.csv.specs.Records.{fields_of}
 use Rattle.ruled_json.specs.Rows.{Rules, rules_of}
 use Rattle.ruled_json.specs.Streamed.{LineRules}
+use Rattle.pg_layout.specs.Text.{Text}
 use Rattle.ruled_io.specs.Faults.{is_memory}
+use Rattle.ruled_io.specs.declared.fault.InputFault.{InputFault}
 use Rattle.ruled_io.specs.declared.fault.RunFault.TheVariants.{Input}
-use Rattle.ruled_io.specs.Reading.{Stands, sound_rows, wrong_in}
+use Rattle.ruled_io.specs.Reading.{Stands, in_format, sound_rows, wrong_in}
 use Rattle.ruled_io.specs.Stream.{Ends, first_count, line_rules}
 use Rattle.ruled_io.proofs.Inputs.{stands-so}
 use Rattle.ruled_io.proofs.Shows.{failed-ends}
@@ -38,7 +40,8 @@ returns-clause-ends g c = λ rest known.
     let new = g.W.Write.contents c.show_table.new.out.writer in
     let begun = stands-so format rules all (Some rest) (map fields_of c.new-rows.result.items) (map fields_of c.of_front.new.rows.items) c.in_ok-reading.reading (ap (map fields_of) c.new-rows.ensures.items) (c.in_ok-reading.ensures.given rest) in
     let here = subst (λ (left : Option (List ℕ)). Stands format rules all left (map fields_of c.of_front.new.rows.items) c.in_ok-reading.reading) (sym known) begun in
-    let ends = c.show_table.ensures.ends format rules all c.first_count-first.ensures.some c.in_ok-reading-2.ensures.enough (c.in_ok-reading-2.ensures.given format rules all here) in
+    let (rows, wrong, (are, told), found) = c.show_table.ensures.ends (in_format format rules all) c.first_count-first.ensures.some c.in_ok-reading-2.ensures.enough (c.in_ok-reading-2.ensures.given (in_format format rules all) here) in
+    let ends = subst₂ (λ (rs : List (List Text)) (w : Option InputFault). Ends options c.first_count-first.result rs w old new c.show_table.result) are told found in
     subst (λ (n : ℕ).
     Ends options (first_count options format c.args.count) (sound_rows format (record { records = n; members = members }) all) (wrong_in format (record { records = n; members = members }) all) old new c.show_table.result) c.record_count.ensures
     (subst (λ (first : ℕ). Ends options first (sound_rows format rules all) (wrong_in format rules all) old new c.show_table.result) c.first_count-first.ensures.same ends)

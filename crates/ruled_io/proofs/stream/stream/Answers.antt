@@ -1,5 +1,5 @@
 use Rattle.ruled_io.specs.Reading.{read_failure}
-use Rattle.ruled_io.specs.Stream.{StreamsAll, streamed_count, streamed_rows, streamed_wrong}
+use Rattle.ruled_io.specs.Stream.{StreamsAll, streamed_count}
 use Rattle.ruled_io.proofs.Inputs.{if-more}
 use Rattle.ruled_io.proofs.Shows.{ends-kept}
 use Rattle.ruled_io.proofs.stream.stream.Goals as goal
@@ -14,7 +14,9 @@ returns-clause-ends g c =
     let answer = c.show_input-answer.result in
     let result = c.show_to_end.result in
     if-more {P = λ bytes. StreamsAll request count bytes old mid answer} {Q = λ bytes. StreamsAll request count bytes old new result} (g.R.Read.remaining c.args.pieces.now.input) c.show_input-answer.ensures.ends
-    (λ bytes is ends. ends-kept request.view (streamed_count request count bytes) (streamed_rows request count bytes) (streamed_wrong request count bytes) old mid new answer result ends c.show_to_end.ensures.kept c.show_to_end.ensures.fine c.show_to_end.ensures.early)
+    (λ bytes is streams.
+    let (rows, wrong, are, ends) = streams in
+    (rows, wrong, are, ends-kept request.view (streamed_count request count bytes) rows wrong old mid new answer result ends c.show_to_end.ensures.kept c.show_to_end.ensures.fine c.show_to_end.ensures.early))
 
 pub returns-clause-told : goal.returns-clause-told
 returns-clause-told g c = λ none. c.show_to_end.ensures.told (c.show_input-answer.ensures.told none)

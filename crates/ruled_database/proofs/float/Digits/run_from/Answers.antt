@@ -1,6 +1,6 @@
 use Rattle.std.proofs.Common.{◌≡◌, ◌∙◌, ℕ, ◌/◌, ◌%◌, ap, sym, arith}
 use Rattle.sqlite_sql.specs.Spelling as spec
-use Rattle.ruled_database.proofs.Floats.{front_less, run_ends, run_more}
+use Rattle.ruled_database.proofs.Tabling.{front_less, run_ends, run_more}
 use Rattle.ruled_database.proofs.float.Digits.run_from.Goals as goal
 
 pub run-preserved : goal.run-preserved

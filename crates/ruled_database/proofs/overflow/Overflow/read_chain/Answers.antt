@@ -1,7 +1,6 @@
 use Rattle.std.proofs.Common.{◌≡◌, ◌∙◌, ◌-◌, ◌++◌, ℕ, List, Some, Err, Ok, length, take, drop, refl, length-take, length-drop, Bor, sym, subst, arith}
 use Rattle.std.proofs.lemmas.Grind.{common_steps}
-use Rattle.ruled_database.specs.Files.{page}
-use Rattle.ruled_database.specs.Trees.{Read, Gives, GivesPage, chain}
+use Rattle.ruled_database.specs.Trees.{page, Read, Gives, GivesPage, chain}
 use Rattle.ruled_database.specs.declared.file.File.{File}
 use Rattle.ruled_database.proofs.Tabling.{gives_nothing, chain_none, gives_chain, gives_no_chain, handed_on}
 use Rattle.ruled_database.proofs.overflow.Overflow.read_chain.Goals as goal

@@ -4,7 +4,8 @@ use Rattle.csv.specs.Records.{AllText, fields_of}
 use Rattle.sqlite_record.specs.Record.{decode}
 use Rattle.sqlite_value.specs.Order.{Row}
 use Rattle.ruled_database.specs.Tables.{encoding_of, in_utf8, texts_in, values_of}
-use Rattle.ruled_database.specs.Trees.{Gives, stored_of, record_of}
+use Rattle.ruled_database.specs.Listings.{stored_of}
+use Rattle.ruled_database.specs.Trees.{Gives, record_of}
 use Rattle.ruled_database.specs.declared.file.File.{File}
 use Rattle.ruled_database.proofs.Tabling.{gives_old, gives_shown, gives_text, gives_unread, gives_wrong, widened}
 use Rattle.ruled_database.proofs.table.RowReader.push_row.Goals as goal

@@ -1,7 +1,7 @@
 use Rattle.std.proofs.Common.{◌≡◌, ◌∙◌, ◌++◌, [], List, None, Option, Some, ap, sym, subst, rules}
 use Rattle.std.specs.Prelude.{Bool}
-use Rattle.ruled_database.specs.Files.{page_of}
-use Rattle.ruled_database.specs.Trees.{LacksRow, Stored, Step, row_step, rows_behind, rows_below, rows_from, sound_rows, steps_of_all, with_row}
+use Rattle.ruled_database.specs.Listings.{LacksRow, row_step, rows_behind, steps_of_all, with_row}
+use Rattle.ruled_database.specs.Trees.{page_of, Stored, Step, rows_below, rows_from, sound_rows}
 use Rattle.ruled_database.specs.declared.tree.Level.{Level}
 use Rattle.ruled_database.specs.declared.tree.StoredRow.{StoredRow}
 use Rattle.ruled_database.proofs.Tabling.{lacks_row, pushed, row_first}

@@ -1,5 +1,5 @@
 use Rattle.std.proofs.Common.{◌≡◌, ◌+◌, ◌*◌, [], length}
-use Rattle.ruled_database.specs.Trees.{rows_behind}
+use Rattle.ruled_database.specs.Listings.{rows_behind}
 use Rattle.ruled_database.proofs.tree.Cursor.next_row.Given as goal
 
 abbrev pub invariant-loop-level : goal.invariant-loop-level

@@ -1,6 +1,6 @@
 use Rattle.std.proofs.Common.{◌≡◌, ◌∙◌, ◌-◌, List, None, Some, ap, sym, subst, arith, rules}
-use Rattle.ruled_database.specs.Files.{page_of}
-use Rattle.ruled_database.specs.Trees.{LacksRow, Step, page_at, rows_behind, rows_below, sound_rows, steps_of_all}
+use Rattle.ruled_database.specs.Listings.{LacksRow, rows_behind, steps_of_all}
+use Rattle.ruled_database.specs.Trees.{page_of, Step, page_at, rows_below, sound_rows}
 use Rattle.ruled_database.specs.declared.fault.TableFault.TheVariants.{Damage}
 use Rattle.ruled_database.specs.declared.tree.Level.{Level}
 use Rattle.ruled_database.proofs.Tabling.{lacks_row, no_left, no_level, no_page, one_page_less, pushed}

@@ -1,7 +1,7 @@
 use Rattle.std.proofs.Common.{◌≡◌, ◌∙◌, ◌+◌, ◌++◌, List, Some, ap, refl, sym, subst, rules}
 use Rattle.sqlite_format.specs.Bytes.{u32_at}
-use Rattle.ruled_database.specs.Files.{cell_at, page_of}
-use Rattle.ruled_database.specs.Trees.{LacksRow, Stored, Step, rows_behind, rows_below, sound_rows, steps_of, steps_of_all, with_row}
+use Rattle.ruled_database.specs.Listings.{LacksRow, rows_behind, steps_of, steps_of_all, with_row}
+use Rattle.ruled_database.specs.Trees.{cell_at, page_of, Stored, Step, rows_below, sound_rows}
 use Rattle.ruled_database.specs.declared.tree.Level.{Level}
 use Rattle.std.specs.Prelude.{Bool}
 use Rattle.ruled_database.proofs.Tabling.{inner_cell, lacks_row, leaf_cell, pushed}
