@@ -1,5 +1,5 @@
-//! Worked tables, each beside its picture. The functions do nothing: their contracts say that the
-//! definitions give the pictures drawn here.
+//! Worked tables, and the looks, each beside its picture. The functions do nothing: their contracts say
+//! that the definitions give the pictures drawn here.
 
 ghost use Rattle.std.specs.Prelude.{◌≡◌, ◌++◌, ◌∷◌, ℕ, List, None, Option, Some, [], codes, true};
 ghost use Rattle.pg_layout.specs.declared.alignment.AlignmentHorizontal.TheVariants as across;
@@ -11,7 +11,7 @@ ghost use Rattle.pg_layout.specs.declared.sides.Offset.TheVariants.{Start, End};
 ghost use Rattle.pg_layout.specs.declared.sides.Sides.{Sides};
 ghost use Rattle.pg_layout.specs.Borders.{no_border, no_borders};
 ghost use Rattle.pg_layout.specs.Colors.{Color};
-ghost use Rattle.pg_layout.specs.Looks.{ascii};
+ghost use Rattle.pg_layout.specs.Looks.{ascii, blank, dots, extended, markdown, markdown_line, modern, psql, psql_line, rounded, sharp, sharp_line};
 ghost use Rattle.pg_layout.specs.Position.{at};
 ghost use Rattle.pg_layout.specs.Text.{Text};
 ghost use Rattle.pg_config.specs.CompactConfig.{CompactSettings};
@@ -25,7 +25,7 @@ ghost use Rattle.pg_picture.specs.Table.{Known, Table, Unknown};
 ghost use Rattle.pg_picture.specs.Pieces.{joined};
 ghost use Rattle.pg_picture.specs.Picture.{compact_picture, picture};
 ghost use Rattle.pg_picture.specs.Samples.{bordered, for_cell, indent, plain, table};
-ghost use Rattle.pg_laws.specs.Samples.{plain_compact, compact_table, color_b, color_g, color_r, for_all, grid22, one, spaced};
+ghost use Rattle.pg_laws.specs.Samples.{drawing, grid_in, headed_in, plain_compact, compact_table, color_b, color_g, color_r, for_all, grid22, one, spaced};
 
 /// Two rows and two columns with borders at all places.
 ///
@@ -432,4 +432,175 @@ pub fn a_text_without_room()
         ≡ Some (Room 1 0) }
     ensures no_line { misfit_of (table plain 2 1 (1 ∷ []) (1 ∷ 0 ∷ []) (([] ∷ []) ∷ (codes "ab" ∷ []) ∷ []))
         ≡ None }
+{}
+
+/// ASCII glyphs at all places.
+///
+/// ```text
+/// +---+---+
+/// |0-0|0-1|
+/// +---+---+
+/// |1-0|1-1|
+/// +---+---+
+/// ```
+#[tactic(auto, unfolding(crate::proofs::Computing::sample_words))]
+pub fn a_table_in_ascii()
+    ensures { picture Known (grid_in ascii) ≡ drawing (codes "+---+---+" ∷ codes "|0-0|0-1|" ∷ codes "+---+---+" ∷ codes "|1-0|1-1|" ∷ codes "+---+---+" ∷ []) }
+{}
+
+/// Single lines at all places.
+///
+/// ```text
+/// ┌───┬───┐
+/// │0-0│0-1│
+/// ├───┼───┤
+/// │1-0│1-1│
+/// └───┴───┘
+/// ```
+#[tactic(auto, unfolding(crate::proofs::Computing::sample_words))]
+pub fn a_table_in_modern()
+    ensures { picture Known (grid_in modern) ≡ drawing (codes "┌───┬───┐" ∷ codes "│0-0│0-1│" ∷ codes "├───┼───┤" ∷ codes "│1-0│1-1│" ∷ codes "└───┴───┘" ∷ []) }
+{}
+
+/// Single lines, and none between rows.
+///
+/// ```text
+/// ┌───┬───┐
+/// │0-0│0-1│
+/// │1-0│1-1│
+/// └───┴───┘
+/// ```
+#[tactic(auto, unfolding(crate::proofs::Computing::sample_words))]
+pub fn a_table_in_sharp()
+    ensures { picture Known (grid_in sharp) ≡ drawing (codes "┌───┬───┐" ∷ codes "│0-0│0-1│" ∷ codes "│1-0│1-1│" ∷ codes "└───┴───┘" ∷ []) }
+{}
+
+/// Single lines with round corners, and none between rows.
+///
+/// ```text
+/// ╭───┬───╮
+/// │0-0│0-1│
+/// │1-0│1-1│
+/// ╰───┴───╯
+/// ```
+#[tactic(auto, unfolding(crate::proofs::Computing::sample_words))]
+pub fn a_table_in_rounded()
+    ensures { picture Known (grid_in rounded) ≡ drawing (codes "╭───┬───╮" ∷ codes "│0-0│0-1│" ∷ codes "│1-0│1-1│" ∷ codes "╰───┴───╯" ∷ []) }
+{}
+
+/// Double lines at all places.
+///
+/// ```text
+/// ╔═══╦═══╗
+/// ║0-0║0-1║
+/// ╠═══╬═══╣
+/// ║1-0║1-1║
+/// ╚═══╩═══╝
+/// ```
+#[tactic(auto, unfolding(crate::proofs::Computing::sample_words))]
+pub fn a_table_in_extended()
+    ensures { picture Known (grid_in extended) ≡ drawing (codes "╔═══╦═══╗" ∷ codes "║0-0║0-1║" ∷ codes "╠═══╬═══╣" ∷ codes "║1-0║1-1║" ∷ codes "╚═══╩═══╝" ∷ []) }
+{}
+
+/// Dots at all places.
+///
+/// ```text
+/// .........
+/// :0-0:0-1:
+/// :...:...:
+/// :1-0:1-1:
+/// :...:...:
+/// ```
+#[tactic(auto, unfolding(crate::proofs::Computing::sample_words))]
+pub fn a_table_in_dots()
+    ensures { picture Known (grid_in dots) ≡ drawing (codes "........." ∷ codes ":0-0:0-1:" ∷ codes ":...:...:" ∷ codes ":1-0:1-1:" ∷ codes ":...:...:" ∷ []) }
+{}
+
+/// A space between columns.
+///
+/// ```text
+/// 0-0 0-1
+/// 1-0 1-1
+/// ```
+#[tactic(auto, unfolding(crate::proofs::Computing::sample_words))]
+pub fn a_table_in_blank()
+    ensures { picture Known (grid_in blank) ≡ drawing (codes "0-0 0-1" ∷ codes "1-0 1-1" ∷ []) }
+{}
+
+/// Lines between columns.
+///
+/// ```text
+/// 0-0|0-1
+/// 1-0|1-1
+/// ```
+#[tactic(auto, unfolding(crate::proofs::Computing::sample_words))]
+pub fn a_table_in_psql()
+    ensures { picture Known (grid_in psql) ≡ drawing (codes "0-0|0-1" ∷ codes "1-0|1-1" ∷ []) }
+{}
+
+/// Lines between columns and at both sides.
+///
+/// ```text
+/// |0-0|0-1|
+/// |1-0|1-1|
+/// ```
+#[tactic(auto, unfolding(crate::proofs::Computing::sample_words))]
+pub fn a_table_in_markdown()
+    ensures { picture Known (grid_in markdown) ≡ drawing (codes "|0-0|0-1|" ∷ codes "|1-0|1-1|" ∷ []) }
+{}
+
+/// A line below the first row, in single lines.
+///
+/// ```text
+/// ┌───┬───┐
+/// │0-0│0-1│
+/// ├───┼───┤
+/// │1-0│1-1│
+/// │2-0│2-1│
+/// └───┴───┘
+/// ```
+#[tactic(auto, unfolding(crate::proofs::Computing::sample_words, pg_config::specs::Overrides::with_row_line))]
+pub fn a_header_in_sharp()
+    ensures { picture Known (headed_in sharp sharp_line) ≡ drawing (codes "┌───┬───┐" ∷ codes "│0-0│0-1│" ∷ codes "├───┼───┤" ∷ codes "│1-0│1-1│" ∷ codes "│2-0│2-1│" ∷ codes "└───┴───┘" ∷ []) }
+{}
+
+/// A line below the first row, in single lines between round corners.
+///
+/// ```text
+/// ╭───┬───╮
+/// │0-0│0-1│
+/// ├───┼───┤
+/// │1-0│1-1│
+/// │2-0│2-1│
+/// ╰───┴───╯
+/// ```
+#[tactic(auto, unfolding(crate::proofs::Computing::sample_words, pg_config::specs::Overrides::with_row_line))]
+pub fn a_header_in_rounded()
+    ensures { picture Known (headed_in rounded sharp_line) ≡ drawing (codes "╭───┬───╮" ∷ codes "│0-0│0-1│" ∷ codes "├───┼───┤" ∷ codes "│1-0│1-1│" ∷ codes "│2-0│2-1│" ∷ codes "╰───┴───╯" ∷ []) }
+{}
+
+/// A line below the first row of columns with lines between them.
+///
+/// ```text
+/// 0-0|0-1
+/// ---+---
+/// 1-0|1-1
+/// 2-0|2-1
+/// ```
+#[tactic(auto, unfolding(crate::proofs::Computing::sample_words, pg_config::specs::Overrides::with_row_line))]
+pub fn a_header_in_psql()
+    ensures { picture Known (headed_in psql psql_line) ≡ drawing (codes "0-0|0-1" ∷ codes "---+---" ∷ codes "1-0|1-1" ∷ codes "2-0|2-1" ∷ []) }
+{}
+
+/// A line below the first row that begins and ends with the glyphs at the sides.
+///
+/// ```text
+/// |0-0|0-1|
+/// |---|---|
+/// |1-0|1-1|
+/// |2-0|2-1|
+/// ```
+#[tactic(auto, unfolding(crate::proofs::Computing::sample_words, pg_config::specs::Overrides::with_row_line))]
+pub fn a_header_in_markdown()
+    ensures { picture Known (headed_in markdown markdown_line) ≡ drawing (codes "|0-0|0-1|" ∷ codes "|---|---|" ∷ codes "|1-0|1-1|" ∷ codes "|2-0|2-1|" ∷ []) }
 {}
