@@ -35,6 +35,8 @@ enum Call {
     Points(usize, usize),
     /// A caption at the right.
     Caption(&'static str),
+    /// A red title at the right of the first line.
+    ColoredTitle(&'static str),
     /// A frame round the cells from one to another, in a table with these lines between its outer ones.
     Framed(Inner, [usize; 4]),
     /// A double line left of column 1.
@@ -259,6 +261,13 @@ const CASES: &[Case] = &[
         text: "+--+-+\n|ab|c|\n+--+-+",
     },
     Case {
+        name: "a red title crosses a column line",
+        rows: &[&["ab", "c"]],
+        call: Call::ColoredTitle("end"),
+        export: Export::Picture,
+        text: "+-\u{1b}[31me\u{1b}[39m\u{1b}[31mn\u{1b}[39m\u{1b}[31md\u{1b}[39m+\n|ab|c|\n+--+-+",
+    },
+    Case {
         name: "a title is placed by narrowed widths",
         rows: &[&["abcdef", "g"]],
         call: Call::Nothing,
@@ -415,6 +424,9 @@ fn changed<A: Allocator + Copy>(
         Call::Numbers => table.with_numbers_right(),
         Call::Points(from, column) => table.with_points_aligned(from, column),
         Call::Caption(caption) => table.with_caption(alloc, caption, AlignmentHorizontal::Right),
+        Call::ColoredTitle(title) => {
+            table.with_colored_title(alloc, 0, title, AlignmentHorizontal::Right, Color::red())
+        }
         Call::Framed(inner, corners) => framed(table, inner, corners),
         Call::ColumnLine => table.with_column_line(1, Borders::extended()),
         Call::OnlyColumnLine => table
