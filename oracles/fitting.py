@@ -302,6 +302,10 @@ def shares(side, taken, room):
     return before, free - before
 
 
+# What is put beside the glyph of a coloured crossing.
+BESIDE = "\uf8ff"
+
+
 def colored(text, color):
     return text if color is None else color[0] + text + color[1]
 
@@ -326,7 +330,7 @@ class Sheet:
         """The settings of a new table."""
         self.borders, self.settings, self.margin = LOOKS[look], defaultdict(list), [(0, " ")] * 4
         self.horizontals, self.verticals, self.crossings, self.titles = {}, {}, {}, {}
-        self.spans, self.colors = {}, {}
+        self.spans, self.colors, self.line_colors = {}, {}, {}
 
     def say(self, *words):
         self.lines.append(" ".join(map(str, words)))
@@ -464,8 +468,22 @@ class Sheet:
         pieces = []
         for c, width in enumerate(widths):
             glyph = self.horizontal(r, c)
-            pieces += [self.crossing(r, c), "".join(self.titles.get((r, c, k), glyph) for k in range(width))]
-        return [*pieces, self.crossing(r, len(widths))]
+            places = [(r, c, k) for k in range(width)]
+            glyphs = [colored(self.titles.get(place, glyph), self.line_colors.get(place)) for place in places]
+            pieces += [self.colored_crossing(r, c), "".join(glyphs)]
+        return [*pieces, self.colored_crossing(r, len(widths))]
+
+    def colored_crossing(self, r, c):
+        color = self.line_colors.get((r, c))
+        glyph = self.crossing(r, c)
+        return BESIDE + colored(glyph, color) + BESIDE if glyph and color else glyph
+
+    def joined(self, pieces):
+        """A line: a colour goes on from one crossing to the next where nothing is between them."""
+        line = "".join(pieces)
+        for begin, end in set(self.line_colors.values()):
+            line = line.replace(end + BESIDE + BESIDE + begin, "")
+        return line.replace(BESIDE, "")
 
     def picture(self, texts, widths, heights):
         rows, columns = self.count()
@@ -482,7 +500,7 @@ class Sheet:
             wide = sum(widths[c : c + w]) + self.columns_between(c + 1, c + w)
             for mark, line in zip(marks, self.block(r, c, texts[r][c], wide, len(marks))):
                 lines[mark][2 * c + 1 : 2 * (c + w)] = [line] + [""] * (2 * w - 2)
-        return "\n".join(self.with_margins(["".join(line) for line in lines.values()], self.full_width(widths)))
+        return "\n".join(self.with_margins([self.joined(line) for line in lines.values()], self.full_width(widths)))
 
     def full_width(self, widths):
         return sum(widths) + self.taken_beside(len(widths))

@@ -211,8 +211,8 @@ class Calls(Sheet):
         sides |= {"left": is_within_rows and c == x, "right": is_within_rows and c == x + w}
         return [side for side, is_on in sides.items() if is_on]
 
-    def put_title(self, r, side, title, widths):
-        """Characters over a row line, each at a crossing or at a glyph of a column."""
+    def put_title(self, r, side, title, widths, color=None):
+        """Characters over a row line, each at a crossing or at a glyph of a column, and a colour of these."""
         if not self.has_row(r):
             return
         room = [place for c, width in enumerate(widths) for place in self.line_places(r, c, width)]
@@ -220,6 +220,7 @@ class Calls(Sheet):
         for place, glyph in zip(room[first:], title):
             glyph = glyph if glyph != "\n" and fitting.width(glyph) == 1 else "\ufffd"
             put(self.titles if len(place) == 3 else self.crossings, place, glyph)
+            put(self.line_colors, place, color)
 
     def line_places(self, r, c, width):
         crossing = [(r, c)] if 0 < c and self.has_column(c) else []
@@ -229,9 +230,13 @@ class Calls(Sheet):
         rows, _ = self.count()
         r, side, title = random.randrange(rows + 2), random.choice(SIDES), random_text(12)
         r = random.choice([0, rows, r])
-        self.say(*(("caption",) if r == rows and random.random() < 0.5 else ("title", r)), side, title)
+        color, words = random_color() if random.random() < 0.4 else (None, "")
+        if color:
+            self.say("colored", r, side, words, title)
+        else:
+            self.say(*(("caption",) if r == rows and random.random() < 0.5 else ("title", r)), side, title)
         if self.spans_fit():
-            self.put_title(r, side, title, self.natural_widths())
+            self.put_title(r, side, title, self.natural_widths(), color)
 
     def color(self):
         """A colour of texts, or a ground, of an entity or of every so manieth row."""
@@ -369,7 +374,7 @@ def merged():
 
 
 def titles():
-    """Titles over row lines of tables, some of which are within a width."""
+    """Titles over row lines of tables, some of which are within a width, and some titles coloured."""
     sheet = random_sheet(Calls.rules, Calls.column_rule)
     if random.random() < 0.3:
         sheet.spread()
@@ -379,9 +384,10 @@ def titles():
         return sheet.print()
     how, total, r = random_how(), random.randrange(40), random.randrange(sheet.count()[0] + 1)
     side, title = random.choice(SIDES), random_text(12)
-    sheet.say("titled", total, r, side, f"{how.words}␟{title}")
+    color, words = random_color() if random.random() < 0.5 else (None, "")
+    sheet.say("titled_in" if color else "titled", total, r, side, *[words] * bool(color), f"{how.words}␟{title}")
     if sheet.spans_fit():
-        sheet.put_title(r, side, title, sheet.fitted(total, (), how)[1])
+        sheet.put_title(r, side, title, sheet.fitted(total, (), how)[1], color)
     sheet.expected = sheet.within(total, how)
     return sheet
 
